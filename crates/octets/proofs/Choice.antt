@@ -1,0 +1,20 @@
+-- Laws of rows of a test and an answer.
+use mathlib.Core.Bool.{Bool, true, false}
+use mathlib.Core.List.{List, [], _∷_}
+use mathlib.Core.Path.{_≡_, refl}
+use Rattle.octets.specs.Choice.{pick, firstMet, Unmet, NoneAnswers}
+
+module _ {A : Type 0} where
+  -- where no row is met, the answer is the last one
+  pub passes : (rows : List (Bool × A)) (z : A) → Unmet rows → firstMet rows z ≡ z
+  passes [] z u = refl
+  passes (row ∷ rows) z u = rw (u .0) (passes rows z (u .1))
+
+  -- where the answer is one that no row has, no row is met
+  pub unmet : (rows : List (Bool × A)) (z : A) → NoneAnswers rows z → firstMet rows z ≡ z → Unmet rows
+  unmet [] z n e = tt
+  unmet (row ∷ rows) z n e = go (unmet rows z (n .1)) (row .0) refl e
+    where
+      go : (firstMet rows z ≡ z → Unmet rows) → (t : Bool) → row .0 ≡ t → pick t (row .1) (firstMet rows z) ≡ z → Unmet (row ∷ rows)
+      go ih true q e = absurd (n .0 e)
+      go ih false q e = (q, ih e)

@@ -1,0 +1,5 @@
+pub mod Numbers
+pub mod Parts
+pub mod Sectors
+pub mod Choice
+pub mod Turns

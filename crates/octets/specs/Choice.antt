@@ -1,0 +1,26 @@
+-- Choice by tests. Document 01, "Refusal numbers": each is given exactly when its rule is first met in the order listed. A call's rules are rows of
+-- a test and an answer, in that order.
+use mathlib.Core.Bool.{Bool, true, false}
+use mathlib.Core.List.{List, [], _∷_}
+use mathlib.Core.Logic.{_≢_}
+use mathlib.Core.Path.{_≡_}
+
+-- a where the test is true, else b
+abbrev pub pick {ℓ} : {A : Type ℓ} → Bool → A → A → A
+pick true a b = a
+pick false a b = b
+
+-- the answer of the first row whose test is true, else z
+abbrev pub firstMet : {A : Type 0} → List (Bool × A) → A → A
+firstMet [] z = z
+firstMet (row ∷ rows) z = pick (row .0) (row .1) (firstMet rows z)
+
+-- the test of every row is false
+abbrev pub Unmet : {A : Type 0} → List (Bool × A) → Type 0
+Unmet [] = Unit {0}
+Unmet (row ∷ rows) = (row .0 ≡ false) × Unmet rows
+
+-- no row has the answer z
+abbrev pub NoneAnswers : {A : Type 0} → List (Bool × A) → A → Type 0
+NoneAnswers [] z = Unit {0}
+NoneAnswers (row ∷ rows) z = (row .1 ≢ z) × NoneAnswers rows z
