@@ -8,7 +8,7 @@ use mathlib.Core.List.{List, [], _∷_, _++_, append-assoc}
 use mathlib.Core.Logic.{_≢_}
 use mathlib.Core.Path.{_≡_, refl, sym, ap, _∙_, subst}
 use lib.Dec.{eqb}
-use lib.ListN.{length, take, drop, getD, replicate, length-append, length-drop, take-append-drop}
+use lib.ListN.{length, take, drop, getD, replicate, length-append, length-drop, length-replicate, replicate-append-replicate, take-append-drop}
 use lib.Seq.{take-append-le, drop-append-le, drop-append-add, take-at, drop-at, length-take-le, take-length, take-all, take-take, take-add, drop-drop, getD-take, getD-drop, paste}
 use borrow.Author.Tests.{eqb-true, eq-eqb}
 use Rattle.octets.specs.Numbers.{Bytes}
@@ -173,3 +173,17 @@ bytes-part a n h = bytes-take n (bytes-drop a h)
 
 pub bytes-patch : (at : ℕ) {l s : List ℕ} → Bytes l → Bytes s → Bytes (patch l at s)
 bytes-patch at {l} {s} hl hs = bytes-append (bytes-take at hl) (bytes-append hs (bytes-drop (at + length s) hl))
+
+-- ---- a front and a rest of one byte repeated
+
+pub take-replicate : (n m x : ℕ) → n ≤ m → take n (replicate m x) ≡ replicate n x
+take-replicate n m x l =
+    let e : n + (m - n) ≡ m = omega arith in
+    subst (λ (k : ℕ). take n (replicate k x) ≡ replicate n x) e
+    (rw (← replicate-append-replicate n (m - n) x) (take-at (replicate n x) (replicate (m - n) x) n (length-replicate n x)))
+
+pub drop-replicate : (n m x : ℕ) → n ≤ m → drop n (replicate m x) ≡ replicate (m - n) x
+drop-replicate n m x l =
+    let e : n + (m - n) ≡ m = omega arith in
+    subst (λ (k : ℕ). drop n (replicate k x) ≡ replicate (m - n) x) e
+    (rw (← replicate-append-replicate n (m - n) x) (drop-at (replicate n x) (replicate (m - n) x) n (length-replicate n x)))

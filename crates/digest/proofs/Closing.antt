@@ -1,0 +1,142 @@
+-- What closing leaves, over plain lists: the padding put together, the words written out, and each way through the calls.
+use Prim.Native.Nat.{ℕ, zero, suc, _+_, _-_, _*_, _/_, _%_, _≤_, _<_}
+use native.Mathlib.Nat.{zero-add}
+use native.Mathlib.Numerals.{add-one}
+use native.Mathlib.Omega.{arith}
+use mathlib.Core.Path.{_≡_, refl, sym, ap, _∙_}
+use mathlib.Core.List.{List, [], _∷_, _++_, append-assoc, append-nil, flatten}
+use lib.ListN.{length, getD, take, drop, set, replicate, length-append, length-replicate}
+use lib.Seq.{take-at, take-suc, length-take-le}
+use Rattle.octets.specs.Numbers.{be}
+use Rattle.octets.specs.Parts.{part, patch}
+use Rattle.octets.proofs.Numbers.{length-be}
+use Rattle.octets.proofs.Parts.{part-all, take-replicate}
+use native.Mathlib.Decide.{decLe}
+use borrow.Author.Tests.{le-ltb, lt-ltb}
+use Rattle.digest.specs.declared.Answer.the-variants.{Taken, TooLong}
+use Rattle.digest.specs.declared.State.{State}
+use Rattle.digest.specs.declared.Updated.{Updated}
+use Rattle.digest.specs.declared.Closed.{Closed}
+use Rattle.digest.specs.Pieces.{limit, freshOf, absorbOf, updateOf, refusedOf, closeOf, finishOf, digestOf}
+use Rattle.digest.specs.Sha256.{sha256}
+use Rattle.digest.specs.Sha256.Promise.{update-taken, update-refused, update-append, addAll, closing, digest-taken}
+use Rattle.digest.specs.Padding.{zeroBytesOf, paddingOf, bytesOf}
+
+-- ---- the padding
+
+-- a front that ends with a patch
+front-patch : (l : List ℕ) (at : ℕ) (x : List ℕ) → at + length x ≤ length l → take (at + length x) (patch l at x) ≡ take at l ++ x
+front-patch l at x fits =
+    let front : length (take at l) ≡ at = length-take-le at l (omega arith) in
+    let size : length (take at l ++ x) ≡ at + length x = length-append (take at l) x ∙ ap (λ (k : ℕ). k + length x) front in
+    rw (← append-assoc) (take-at (take at l ++ x) (drop (at + length x) l) (at + length x) size)
+
+-- 0x80 and the length, copied into zeros
+pub padded : (c z : ℕ) (x l : List ℕ) → z ≡ zeroBytesOf c → z ≤ 63 → x ≡ be 8 (8 * c) → l ≡ patch (set (replicate 72 0) 0 128) (z + 1) (part x 0 8)
+    → take (z + 9) l ≡ paddingOf c
+unfolding paddingOf
+padded c z x l ez le ex el =
+    let size : length x ≡ 8 = ap length ex ∙ length-be 8 (8 * c) in
+    let end : z + 9 ≡ z + 1 + length x = omega arith in
+    let zeros : take z (replicate {A = ℕ} 71 0) ≡ replicate z 0 = take-replicate z 71 0 (omega arith) in
+    rw (el, part-all x 8 size, end, front-patch (set (replicate 72 0) 0 128) (z + 1) x (omega arith), add-one, zeros, ez, ex)
+
+-- ---- the words of a hash value
+
+bytes-append : (h g : List ℕ) → bytesOf (h ++ g) ≡ bytesOf h ++ bytesOf g
+unfolding bytesOf
+bytes-append [] g = refl
+bytes-append (w ∷ h) g = rw (bytes-append h g) (sym (append-assoc (be 4 w) (bytesOf h) (bytesOf g)))
+
+bytes-one : (w : ℕ) → bytesOf (w ∷ []) ≡ be 4 w
+unfolding bytesOf
+bytes-one w = refl
+
+pub bytes-turn : (h out b r : List ℕ) (i : ℕ) → i < length h → 4 * i + 4 ≤ length out → take (4 * i) out ≡ bytesOf (take i h) → b ≡ be 4 (getD h i 0)
+    → r ≡ patch out (4 * i) (part b 0 4) → take (4 * (i + 1)) r ≡ bytesOf (take (i + 1) h)
+bytes-turn h out b r i l fits e eb er =
+    let size : length b ≡ 4 = ap length eb ∙ length-be 4 (getD h i 0) in
+    let end : 4 * (i + 1) ≡ 4 * i + length b = omega arith in
+    rw (er, part-all b 4 size, end, front-patch out (4 * i) b (omega arith), add-one, take-suc h i 0 l, bytes-append, bytes-one, e, eb)
+
+-- ---- the calls, a way through each at a time
+
+count-absorb : (s : State) (p : List ℕ) → absorbOf s p .count ≡ s .count + length p
+unfolding absorbOf
+count-absorb s p = refl
+
+pub closed : (s a : State) (l r : List ℕ) → l ≡ paddingOf (s .count) → a ≡ absorbOf s l → r ≡ bytesOf (a .words) → r ≡ closeOf s
+unfolding closeOf
+closed s a l r el ea er = rw (er, ea, el)
+
+pub update-past : (s : State) (p : List ℕ) → limit < s .count + length p → record { answer = TooLong; state = s } ≡ updateOf s p
+update-past s p h = sym (update-refused s p h)
+
+pub update-fits : (s t : State) (p : List ℕ) → s .count + length p ≤ limit → t ≡ absorbOf s p → record { answer = Taken; state = t } ≡ updateOf s p
+update-fits s t p h e = rw (e, update-taken s p h)
+
+pub finish-past : (s : State) (r : Closed) → limit < s .count → r ≡ refusedOf → r ≡ finishOf s
+unfolding finishOf
+finish-past s r h e = rw (lt-ltb limit (s .count) h, e)
+
+pub finish-fits : (s : State) (d : List ℕ) → s .count ≤ limit → d ≡ closeOf s → record { answer = Taken; digest = d } ≡ finishOf s
+unfolding finishOf
+finish-fits s d h e = rw (le-ltb limit (s .count) h, e)
+
+-- what an answer says of the lengths
+
+answer-fits : (s : State) (p : List ℕ) → updateOf s p .answer ≡ Taken → s .count + length p ≤ limit
+answer-fits s p e = side (decLe (s .count + length p) limit)
+  where
+    side : Dec (s .count + length p ≤ limit) → s .count + length p ≤ limit
+    side (yes h) = h
+    side (no h) =
+        let z : TooLong ≡ Taken = sym (ap (λ (u : Updated). u .answer) (update-refused s p (omega arith))) ∙ e in
+        absurd (let z : _≡_ {A = ℕ} 0 1 = cc in omega arith)
+
+answer-past : (s : State) (p : List ℕ) → updateOf s p .answer ≡ TooLong → limit < s .count + length p
+answer-past s p e = side (decLe (s .count + length p) limit)
+  where
+    side : Dec (s .count + length p ≤ limit) → limit < s .count + length p
+    side (no h) = omega arith
+    side (yes h) =
+        let z : Taken ≡ TooLong = sym (ap (λ (u : Updated). u .answer) (update-taken s p h)) ∙ e in
+        absurd (let z : _≡_ {A = ℕ} 0 1 = cc in omega arith)
+
+digest-past : (m : List ℕ) (r : Closed) → limit < length m → r ≡ refusedOf → r ≡ digestOf m
+unfolding digestOf
+digest-past m r h e = rw (lt-ltb limit (length m) h, e)
+
+-- a message in one piece
+module _ (m : List ℕ) (u : Updated) (r : Closed) (e : u ≡ updateOf freshOf m) where
+  pub whole-past : u .answer ≡ TooLong → r ≡ refusedOf → r ≡ digestOf m
+  whole-past a = digest-past m r (rw zero-add at (answer-past freshOf m (rw e at a)))
+
+  pub whole-fits : u .answer ≡ Taken → r ≡ finishOf (u .state) → r ≡ digestOf m
+  unfolding flatten
+  whole-fits a er =
+      let fits : length m ≤ limit = rw zero-add at (answer-fits freshOf m (rw e at a)) in
+      let piece : flatten (m ∷ []) ≡ m = append-nil m in
+      er ∙ ap (λ (x : Updated). finishOf (x .state)) e ∙ closing (m ∷ []) (rw piece fits)
+      ∙ ap (λ (x : List ℕ). record { answer = Taken; digest = sha256 x }) piece ∙ sym (digest-taken m fits)
+
+-- a message in two pieces
+module _ (p q : List ℕ) (u v : Updated) (r : Closed) (e : u ≡ updateOf freshOf p) where
+  pub first-past : u .answer ≡ TooLong → r ≡ refusedOf → r ≡ digestOf (p ++ q)
+  first-past a = digest-past (p ++ q) r (omega (arith, rw zero-add at (answer-past freshOf p (rw e at a)), length-append p q))
+
+  module _ (taken : u .answer ≡ Taken) (f : v ≡ updateOf (u .state) q) where
+    state : u .state ≡ absorbOf freshOf p
+    state = ap (λ (x : Updated). x .state) (e ∙ update-taken freshOf p (answer-fits freshOf p (rw e at taken)))
+
+    total : u .state .count + length q ≡ length (p ++ q)
+    total = ap (λ (s : State). s .count + length q) state ∙ rw (count-absorb freshOf p, zero-add, length-append)
+
+    pub both-past : v .answer ≡ TooLong → r ≡ refusedOf → r ≡ digestOf (p ++ q)
+    both-past a = digest-past (p ++ q) r (rw total at (answer-past (u .state) q (rw f at a)))
+
+    pub both-fit : v .answer ≡ Taken → r ≡ finishOf (v .state) → r ≡ digestOf (p ++ q)
+    both-fit a =
+        let fits : length (p ++ q) ≤ limit = rw total at (answer-fits (u .state) q (rw f at a)) in
+        let all : v ≡ updateOf freshOf (p ++ q) = f ∙ ap (λ (x : Updated). updateOf (x .state) q) e ∙ update-append freshOf p q refl (rw zero-add fits) in
+        whole-fits (p ++ q) v r all a

@@ -1,0 +1,89 @@
+-- The digest's promise: all that crates above may use of `sha256`. Its 32 bytes; two pieces are as the one that they make; closing after any pieces
+-- gives the digest of their concatenation.
+use Prim.Native.Nat.{ℕ, _+_, _/_, _*_, _≤_, _<_}
+use native.Mathlib.Nat.{zero-add}
+use native.Mathlib.Omega.{arith}
+use mathlib.Core.Path.{_≡_, refl, sym, ap, _∙_}
+use mathlib.Core.List.{List, [], _∷_, _++_, append-assoc, append-nil, flatten}
+use lib.ListN.{length, length-append}
+use lib.Dec.{ltb}
+use borrow.Author.Tests.{le-ltb, lt-ltb, ltb-false}
+use Rattle.octets.specs.Numbers.{Bytes}
+use Rattle.digest.specs.declared.Answer.the-variants.{Taken, TooLong}
+use Rattle.digest.specs.declared.State.{State}
+use Rattle.digest.specs.Constants.{initialHash}
+use Rattle.digest.specs.Compression.{hashOf}
+use Rattle.digest.specs.Padding.{paddingOf, bytesOf}
+use Rattle.digest.specs.Pieces.{limit, freshOf, absorbOf, updateOf, closeOf, finishOf, digestOf}
+use Rattle.digest.specs.Sha256.{sha256, paddedOf}
+use Rattle.digest.specs.Sha256.Laws.{length-hash, length-bytesOf, bytes-bytesOf, absorb-append, count-absorb, words-absorb, fresh-holds-nothing}
+
+-- ---- the digest's bytes
+
+pub length-sha256 : (m : List ℕ) → length (sha256 m) ≡ 32
+unfolding sha256
+length-sha256 m =
+    let words : length (hashOf (length (paddedOf m) / 64) initialHash (paddedOf m)) ≡ 8 = length-hash _ initialHash (paddedOf m) refl in
+    rw (length-bytesOf, words)
+
+pub bytes-sha256 : (m : List ℕ) → Bytes (sha256 m)
+unfolding sha256
+bytes-sha256 m = bytes-bytesOf _
+
+-- ---- pieces
+
+-- a piece that fits is taken
+pub update-taken : (s : State) (p : List ℕ) → s .count + length p ≤ limit → updateOf s p ≡ record { answer = Taken; state = absorbOf s p }
+unfolding updateOf
+update-taken s p fits = rw (le-ltb limit (s .count + length p) fits)
+
+-- and one that does not fit is refused, and the state stays
+pub update-refused : (s : State) (p : List ℕ) → limit < s .count + length p → updateOf s p ≡ record { answer = TooLong; state = s }
+unfolding updateOf
+update-refused s p past = rw (lt-ltb limit (s .count + length p) past)
+
+-- two pieces that fit together are as the one that they make
+pub update-append : (s : State) (p q : List ℕ) → length (s .tail) ≡ 64 → s .count + length (p ++ q) ≤ limit
+    → updateOf (updateOf s p .state) q ≡ updateOf s (p ++ q)
+update-append s p q full fits =
+    let sum : length (p ++ q) ≡ length p + length q = length-append p q in
+    let then : absorbOf s p .count + length q ≤ limit = rw (count-absorb s p) (omega arith) in
+    rw (update-taken s p (omega arith), update-taken (absorbOf s p) q then, update-taken s (p ++ q) fits, absorb-append s p q full)
+
+-- ---- closing
+
+-- the state after pieces that are added in turn; one that is refused changes nothing
+abbrev pub addAll : State → List (List ℕ) → State
+addAll s [] = s
+addAll s (p ∷ ps) = addAll (updateOf s p .state) ps
+
+-- from a state that holds the message m
+add-all : (ps : List (List ℕ)) (m : List ℕ) → length (m ++ flatten ps) ≤ limit → addAll (absorbOf freshOf m) ps ≡ absorbOf freshOf (m ++ flatten ps)
+unfolding flatten
+add-all [] m fits = rw append-nil
+add-all (p ∷ ps) m fits =
+    let sum : length (m ++ (p ++ flatten ps)) ≡ length m + (length p + length (flatten ps)) = rw (length-append, length-append) in
+    let count : absorbOf freshOf m .count + length p ≤ limit = rw (count-absorb freshOf m) (omega arith) in
+    let next = add-all ps (m ++ p) (rw append-assoc fits) in
+    rw (update-taken (absorbOf freshOf m) p count, absorb-append freshOf m p refl) (rw append-assoc at next)
+
+-- closing a state that holds the message m
+close-whole : (m : List ℕ) → closeOf (absorbOf freshOf m) ≡ sha256 m
+unfolding closeOf sha256
+close-whole m =
+    ap bytesOf
+    (ap (λ (c : ℕ). absorbOf (absorbOf freshOf m) (paddingOf c) .words) (count-absorb freshOf m ∙ zero-add (length m))
+    ∙ ap (λ (s : State). s .words) (absorb-append freshOf m (paddingOf (length m)) refl) ∙ words-absorb (m ++ paddingOf (length m)))
+
+-- whatever pieces a message comes in, closing gives its digest
+pub closing : (ps : List (List ℕ)) → length (flatten ps) ≤ limit → finishOf (addAll freshOf ps) ≡ record { answer = Taken; digest = sha256 (flatten ps) }
+unfolding finishOf
+closing ps fits =
+    let state : addAll freshOf ps ≡ absorbOf freshOf (flatten ps) = ap (λ (s : State). addAll s ps) fresh-holds-nothing ∙ add-all ps [] fits in
+    let count : absorbOf freshOf (flatten ps) .count ≤ limit = rw (count-absorb freshOf (flatten ps)) (omega arith) in
+    rw (state, le-ltb limit _ count, close-whole (flatten ps))
+
+-- the digest of a message that is not too long
+pub digest-taken : (m : List ℕ) → length m ≤ limit → digestOf m ≡ record { answer = Taken; digest = sha256 m }
+unfolding digestOf
+digest-taken m fits = rw (le-ltb limit (length m) fits)

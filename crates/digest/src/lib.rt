@@ -1,0 +1,152 @@
+// SHA-256 over pieces: document 01, "Digest"; FIPS 180-4.
+//
+// What each call returns is defined in specs/Pieces.antt. The digest itself is `sha256` of specs/Sha256.antt, which crates
+// above see by the laws in specs/Sha256/Promise.antt alone.
+mod compression;
+mod pieces;
+mod words;
+
+ghost use mathlib.Core.Path.{_≡_};
+ghost use mathlib.Core.List.{_++_};
+ghost use Rattle.digest.specs.Pieces.{numberOf, freshOf, updateOf, refusedOf, finishOf, digestOf};
+
+// A digest in the making: the hash value of the whole blocks so far, the unfinished block, and how many bytes there were in all.
+// Any value of it may be handed in.
+pub struct State {
+    pub words: [u32; 8],
+    pub tail: [u8; 64],
+    pub count: u64,
+}
+
+pub enum Answer {
+    // The call was carried out.
+    Taken,
+    // Refused with 1: the message is, or would become, longer than the limit.
+    TooLong,
+}
+
+// What adding a piece returns. (An enum can't hold an array, so the answer stands beside the state.)
+pub struct Updated {
+    pub answer: Answer,
+    pub state: State,
+}
+
+// What closing returns; the digest is zeros where the answer is a refusal.
+pub struct Closed {
+    pub answer: Answer,
+    pub digest: [u8; 32],
+}
+
+// The most bytes that a message may have: FIPS 180-4 counts its bits in 64 bits.
+const LIMIT: u64 = 2305843009213693951;
+
+// The number of an answer in document 01; 0 where it is no refusal.
+pub fn number(a: Answer) -> u32
+    ensures { λ r. ⌜ r ≡ numberOf a ⌝ }
+{
+    match a {
+        Answer::Taken => 0,
+        Answer::TooLong => 1,
+    }
+}
+
+// The state before any piece.
+pub fn fresh() -> State
+    ensures { λ r. ⌜ r ≡ freshOf ⌝ }
+{
+    State {
+        words: [
+            0x6a09e667,
+            0xbb67ae85,
+            0x3c6ef372,
+            0xa54ff53a,
+            0x510e527f,
+            0x9b05688c,
+            0x1f83d9ab,
+            0x5be0cd19,
+        ],
+        tail: [0u8; 64],
+        count: 0,
+    }
+}
+
+// A piece added. Refused, with the state as it was, where the total would pass the limit.
+pub fn update(s: State, piece: &[u8]) -> Updated
+    ensures { λ r. ⌜ r ≡ updateOf s (now (piece .entry)) ⌝ }
+{
+    let count = s.count;
+    if LIMIT < count {
+        return Updated {
+            answer: Answer::TooLong,
+            state: s,
+        };
+    }
+    if LIMIT - count < piece.len() as u64 {
+        return Updated {
+            answer: Answer::TooLong,
+            state: s,
+        };
+    }
+    let next = pieces::absorb(s, piece);
+    Updated {
+        answer: Answer::Taken,
+        state: next,
+    }
+}
+
+// What closing returns where it is refused.
+fn refused() -> Closed
+    ensures { λ r. ⌜ r ≡ refusedOf ⌝ }
+{
+    Closed {
+        answer: Answer::TooLong,
+        digest: [0u8; 32],
+    }
+}
+
+// The digest of all the pieces. Refused where the state is past the limit.
+pub fn finish(s: State) -> Closed
+    ensures { λ r. ⌜ r ≡ finishOf s ⌝ }
+{
+    let count = s.count;
+    if LIMIT < count {
+        return refused();
+    }
+    let digest = pieces::close(s);
+    Closed {
+        answer: Answer::Taken,
+        digest: digest,
+    }
+}
+
+// The digest of a message that is lent whole.
+pub fn sha256(message: &[u8]) -> Closed
+    ensures { λ r. ⌜ r ≡ digestOf (now (message .entry)) ⌝ }
+{
+    let all = update(fresh(), message);
+    let answer = all.answer;
+    let Answer::Taken = answer else {
+        return refused();
+    };
+    let s = all.state;
+    finish(s)
+}
+
+// The digest of a message that is lent in two parts: a sector's number and its bytes, a salt and a block.
+pub fn sha256_of_two(first: &[u8], second: &[u8]) -> Closed
+    ensures { λ r. ⌜ r ≡ digestOf (now (first .entry) ++ now (second .entry)) ⌝ }
+{
+    let one = update(fresh(), first);
+    let answer = one.answer;
+    let Answer::Taken = answer else {
+        return refused();
+    };
+    let s = one.state;
+    let both = update(s, second);
+    let last = both.answer;
+    let Answer::Taken = last else {
+        return refused();
+    };
+    let t = both.state;
+    finish(t)
+}
