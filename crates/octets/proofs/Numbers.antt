@@ -1,8 +1,8 @@
 -- Laws of numbers in bytes: lengths, what is read back, and bounds.
 use Prim.Native.Nat.{ℕ, zero, suc, _+_, _*_, _/_, _%_, _^_, _<_}
-use native.Mathlib.Nat.{mod-lt, pow-suc, pow-zero}
+use native.Mathlib.Nat.{pow-suc, pow-succ', pow-zero, div-div-eq-div-mul, div-one}
 use native.Mathlib.Omega.{arith}
-use mathlib.Core.List.{List, [], _∷_}
+use mathlib.Core.List.{List, [], _∷_, _++_, reverse, reverse-cons}
 use mathlib.Core.Path.{_≡_, refl, ap}
 use lib.ListN.{length, getD}
 use Rattle.octets.specs.Numbers.{Bytes, le, be, value}
@@ -61,4 +61,14 @@ length-be (suc k) n = ap suc (length-be k n)
 
 pub bytes-be : (k n : ℕ) → Bytes (be k n)
 bytes-be zero n = bytes-nil
-bytes-be (suc k) n = bytes-cons (mod-lt (n / 256 ^ k) (omega arith)) (bytes-be k n)
+bytes-be (suc k) n = bytes-cons (omega arith) (bytes-be k n)
+
+-- its last byte is the least significant
+be-last : (k n : ℕ) → be (suc k) n ≡ be k (n / 256) ++ (n % 256 ∷ [])
+be-last zero n = rw (pow-zero, div-one)
+be-last (suc k) n = rw (be-last k n, pow-succ', ← div-div-eq-div-mul n 256 (256 ^ k))
+
+-- the same bytes as little-endian, in reverse order
+pub be-reverse : (k n : ℕ) → be k n ≡ reverse (le k n)
+be-reverse zero n = refl
+be-reverse (suc k) n = rw (be-last k n, be-reverse k (n / 256), reverse-cons)

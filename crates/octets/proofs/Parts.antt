@@ -1,7 +1,6 @@
 -- Laws of parts of a list: length, what a patch leaves and replaces, parts of parts, equality, and that bytes stay bytes.
 -- A patch is said to fit where it ends within the list.
 use Prim.Native.Nat.{ℕ, zero, suc, _+_, _-_, _≤_, _<_}
-use native.Mathlib.Decide.{decLt}
 use native.Mathlib.Omega.{arith}
 use mathlib.Core.Bool.{Bool, true, false, _&&_}
 use mathlib.Core.List.{List, [], _∷_, _++_, append-assoc}
@@ -61,8 +60,18 @@ module _ (l : List ℕ) (at : ℕ) (s : List ℕ) (fits : at + length s ≤ leng
   front-length : length (take at l) ≡ at
   front-length = length-take-le at l (omega arith)
 
+  end-length : length (take at l ++ s) ≡ at + length s
+  end-length = simp (length-append, front-length)
+
   pub length-patch : length (patch l at s) ≡ length l
   length-patch = simp (length-append, length-drop, front-length) (omega arith)
+
+  split-at-end : patch l at s ≡ (take at l ++ s) ++ drop (at + length s) l
+  split-at-end = sym (append-assoc (take at l) s (drop (at + length s) l))
+
+  -- what lies up to its end
+  pub take-patch : take (at + length s) (patch l at s) ≡ take at l ++ s
+  take-patch = ap (take (at + length s)) split-at-end ∙ take-at (take at l ++ s) (drop (at + length s) l) (at + length s) end-length
 
   -- the part that it replaces
   pub part-patch-same : (n : ℕ) → n ≡ length s → part (patch l at s) at n ≡ s
@@ -80,14 +89,17 @@ module _ (l : List ℕ) (at : ℕ) (s : List ℕ) (fits : at + length s ≤ leng
   -- what lies behind it
   pub drop-patch-after : (b : ℕ) → at + length s ≤ b → drop b (patch l at s) ≡ drop b l
   drop-patch-after b h =
-      let front : length (take at l ++ s) ≡ at + length s = simp (length-append, front-length) in
       let e : at + length s + (b - (at + length s)) ≡ b = omega arith in
-      ap (drop b) (sym (append-assoc (take at l) s (drop (at + length s) l)))
-      ∙ drop-past (take at l ++ s) (drop (at + length s) l) b (rw front h)
-      ∙ rw (front, drop-drop, e)
+      ap (drop b) split-at-end
+      ∙ drop-past (take at l ++ s) (drop (at + length s) l) b (rw end-length h)
+      ∙ rw (end-length, drop-drop, e)
 
+  -- a part behind it
   pub part-patch-after : (b n : ℕ) → at + length s ≤ b → part (patch l at s) b n ≡ part l b n
   part-patch-after b n h = ap (take n) (drop-patch-after b h)
+
+drop-take : (i n : ℕ) (l : List ℕ) → i ≤ length (take n l) → drop i (take n l) ++ drop n l ≡ drop i l
+drop-take i n l h = sym (drop-append-le i (take n l) (drop n l) h) ∙ ap (drop i) (take-append-drop n l)
 
 -- a part replaced by itself with a patch is a patch of the whole
 pub patch-patch : (l : List ℕ) (at n off : ℕ) (x : List ℕ) → off + length x ≤ n → at + n ≤ length l
@@ -96,24 +108,18 @@ patch-patch l at n off x h k =
     let size : length (part l at n) ≡ n = length-part l at n k in
     let fits : off + length x ≤ length (part l at n) = rw size h in
     let front : take off (part l at n) ≡ take off (drop at l) = take-take off n (drop at l) (omega arith) in
-    let e : at + (off + length x) ≡ at + off + length x = omega arith in
-    let back : drop (off + length x) (part l at n) ++ drop (at + n) l ≡ drop (at + off + length x) l =
-    ap (λ (z : List ℕ). drop (off + length x) (part l at n) ++ z) (sym (drop-drop n at l))
-    ∙ sym (drop-append-le (off + length x) (part l at n) (drop n (drop at l)) fits)
-    ∙ rw (take-append-drop, drop-drop, e) in
-    rw (length-patch (part l at n) off x fits, size, front, take-add at off l, ← back) (simp append-assoc)
+    let end : at + off + length x ≡ at + (off + length x) = omega arith in
+    let back = drop-take (off + length x) n (drop at l) fits in
+    rw (length-patch (part l at n) off x fits, size, front, take-add at off l, end, ← drop-drop n at l, ← drop-drop (off + length x) at l, ← back)
+    (simp append-assoc)
 
 -- two patches side by side are one
 pub patch-join : (l : List ℕ) (at : ℕ) (x y : List ℕ) → at + length x + length y ≤ length l
     → patch (patch l at x) (at + length x) y ≡ patch l at (x ++ y)
 patch-join l at x y h =
-    let size : length (take at l ++ x) ≡ at + length x = simp (length-append, length-take-le at l (omega arith)) in
-    let front : take (at + length x) (patch l at x) ≡ take at l ++ x =
-    ap (take (at + length x)) (sym (append-assoc (take at l) x (drop (at + length x) l))) ∙ take-at (take at l ++ x) (drop (at + length x) l) (at + length x) size in
-    let back : drop (at + length x + length y) (patch l at x) ≡ drop (at + length x + length y) l =
-    drop-patch-after l at x (omega arith) (at + length x + length y) (omega arith) in
-    let e : at + length (x ++ y) ≡ at + length x + length y = omega (arith, length-append x y) in
-    rw (front, back, e) (simp append-assoc)
+    let fits : at + length x ≤ length l = omega arith in
+    let end : at + length (x ++ y) ≡ at + length x + length y = omega (arith, length-append x y) in
+    rw (take-patch l at x fits, drop-patch-after l at x fits (at + length x + length y) (omega arith), end) (simp append-assoc)
 
 -- the kit's copy of a whole list is a patch
 pub paste-patch : (l : List ℕ) (at : ℕ) (s : List ℕ) (n : ℕ) → n ≡ length s → paste l at s n ≡ patch l at s

@@ -1,15 +1,16 @@
--- Parts of a list of bytes: what a loan's bytes are read by, replaced by and compared by. Indexes and lengths are in bytes.
+-- Parts of a list of bytes: taken, replaced, compared. A part is given by index and length, in bytes, as document 01, "Volume layout", gives the fields of
+-- a superblock.
 use Prim.Native.Nat.{ℕ, _+_}
 use mathlib.Core.Bool.{Bool, true, false, _&&_}
 use mathlib.Core.List.{List, [], _∷_, _++_}
 use lib.Dec.{eqb}
 use lib.ListN.{length, take, drop}
 
--- the n bytes of l from index at
+-- the n bytes of l from index `at`
 abbrev pub part : List ℕ → ℕ → ℕ → List ℕ
 part l at n = take n (drop at l)
 
--- l with the bytes from index at replaced by s
+-- l with the `length s` bytes from index `at` replaced by s
 abbrev pub patch : List ℕ → ℕ → List ℕ → List ℕ
 patch l at s = take at l ++ (s ++ drop (at + length s) l)
 

@@ -25,14 +25,14 @@ loop-holds c =
 loop-again : tie.Need-loop-again Inv-loop μ-loop
 loop-again c =
     let a = c .before .before .before .args in
-    let now = c .before .before .loop in
+    let here = c .before .before .loop in
     let size : length (part (a .s .now) (a .from) (a .n)) ≡ a .n = length-part (a .s .now) (a .from) (a .n) (omega arith) in
-    let byte = sym (getD-part (a .s .now) (a .from) (a .n) (now .i) (omega arith)) in (
+    let byte = sym (getD-part (a .s .now) (a .from) (a .n) (here .i) (omega arith)) in (
       omega arith,
       omega arith,
       omega arith,
-      simp length-set (now .inv .3),
-      turn (a .d .now) (a .at) (part (a .s .now) (a .from) (a .n)) (omega arith) (now .d) (now .i) _ (omega arith) byte (now .inv .4),
+      simp length-set (here .inv .3),
+      turn (a .d .now) (a .at) (part (a .s .now) (a .from) (a .n)) (omega arith) (here .d) (here .i) _ (omega arith) byte (here .inv .4),
     )
 
 returns : tie.Need-returns Inv-loop μ-loop

@@ -24,13 +24,13 @@ loop-holds c =
 loop-again : tie.Need-loop-again Inv-loop μ-loop
 loop-again c =
     let a = c .before .before .args in
-    let now = c .before .loop in
+    let here = c .before .loop in
     let size : length (replicate (a .n) (a .x)) ≡ a .n = length-replicate (a .n) (a .x) in
-    let byte = sym (getD-replicate (a .n) (now .i) (a .x) 0 (omega arith)) in (
+    let byte = sym (getD-replicate (a .n) (here .i) (a .x) 0 (omega arith)) in (
       omega arith,
       omega arith,
-      simp length-set (now .inv .2),
-      turn (a .d .now) (a .at) (replicate (a .n) (a .x)) (omega arith) (now .d) (now .i) _ (omega arith) byte (now .inv .3),
+      simp length-set (here .inv .2),
+      turn (a .d .now) (a .at) (replicate (a .n) (a .x)) (omega arith) (here .d) (here .i) _ (omega arith) byte (here .inv .3),
     )
 
 returns : tie.Need-returns Inv-loop μ-loop

@@ -24,23 +24,23 @@ loop-holds c =
 
 mul-v : tie.Need-mul-v Inv-loop μ-loop
 mul-v c =
-    let now = c .before .before .before .loop in
-    record { fits = omega (arith, number-fits (c .before .before .before .before .before .args .n) (now .i) (now .v) (omega arith) (omega arith) (now .inv .4)) }
+    let here = c .before .before .before .loop in
+    record { fits = omega (arith, number-fits (c .before .before .before .before .before .args .n) (here .i) (here .v) (omega arith) (omega arith) (here .inv .4)) }
 
 add-v : tie.Need-add-v Inv-loop μ-loop
 add-v c =
-    let now = c .before .before .before .loop in
-    record { fits = omega (arith, number-fits (c .before .before .before .before .before .args .n) (now .i) (now .v) (omega arith) (omega arith) (now .inv .4)) }
+    let here = c .before .before .before .loop in
+    record { fits = omega (arith, number-fits (c .before .before .before .before .before .args .n) (here .i) (here .v) (omega arith) (omega arith) (here .inv .4)) }
 
 loop-again : tie.Need-loop-again Inv-loop μ-loop
 loop-again c =
     let a = c .before .before .before .before .before .args in
-    let now = c .before .before .before .loop in (
+    let here = c .before .before .before .loop in (
       omega arith,
       omega arith,
       omega arith,
-      ap (λ (b : ℕ). now .v * 256 + b) (c .wide .ensures .0) ∙ number-turn (a .s .now) (a .at) (a .n) (now .i) (now .v) (omega arith) (omega arith) (omega arith) (now .inv .3),
-      number-bound (a .n) (now .i) (now .v) (c .wide .result) (omega arith) (omega arith) (now .inv .4) (c .wide .ensures .1),
+      ap (λ (b : ℕ). here .v * 256 + b) (c .wide .ensures .0) ∙ number-turn (a .s .now) (a .at) (a .n) (here .i) (here .v) (omega arith) (omega arith) (omega arith) (here .inv .3),
+      number-bound (a .n) (here .i) (here .v) (c .wide .result) (omega arith) (omega arith) (here .inv .4) (c .wide .ensures .1),
     )
 
 returns : tie.Need-returns Inv-loop μ-loop

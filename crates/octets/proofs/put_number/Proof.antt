@@ -27,14 +27,14 @@ loop-holds c =
 loop-again : tie.Need-loop-again Inv-loop μ-loop
 loop-again c =
     let a = c .before .before .args in
-    let now = c .before .loop in
+    let here = c .before .loop in
     let size : length (le (a .n) (a .x)) ≡ a .n = length-le (a .n) (a .x) in
-    let first = le-first (a .n) (now .i) (a .x) (now .v) (omega arith) (now .inv .4) in (
+    let first = le-first (a .n) (here .i) (a .x) (here .v) (omega arith) (here .inv .4) in (
       omega arith,
       omega arith,
-      simp length-set (now .inv .2),
-      turn (a .s .now) (a .at) (le (a .n) (a .x)) (omega arith) (now .s) (now .i) _ (omega arith) first (now .inv .3),
-      le-rest (a .n) (now .i) (a .x) (now .v) (omega arith) (now .inv .4),
+      simp length-set (here .inv .2),
+      turn (a .s .now) (a .at) (le (a .n) (a .x)) (omega arith) (here .s) (here .i) _ (omega arith) first (here .inv .3),
+      le-rest (a .n) (here .i) (a .x) (here .v) (omega arith) (here .inv .4),
     )
 
 returns : tie.Need-returns Inv-loop μ-loop
