@@ -1,0 +1,69 @@
+//! The C interface, with a slice for each pointer and length. A buffer may have any length, and the answer is the
+//! library's own: 0 is done, anything else the number of a refusal, after which every buffer is as it was.
+//!
+//! All unsafe code of this crate stands here. It rests on two things: that the declarations below are those of the
+//! library, which nothing checks, and that its functions touch nothing outside the buffers lent to them, which is proved.
+#![allow(unsafe_code)]
+
+unsafe extern "C" {
+    fn gaffreel_sha256(
+        message: *const u8,
+        message_length: usize,
+        digest: *mut u8,
+        digest_length: usize,
+    ) -> u32;
+
+    fn gaffreel_sha256_new(state: *mut u8, state_length: usize) -> u32;
+
+    fn gaffreel_sha256_update(
+        state: *mut u8,
+        state_length: usize,
+        piece: *const u8,
+        piece_length: usize,
+    ) -> u32;
+
+    fn gaffreel_sha256_finish(
+        state: *const u8,
+        state_length: usize,
+        digest: *mut u8,
+        digest_length: usize,
+    ) -> u32;
+}
+
+/// The digest of a whole message.
+pub fn sha256(message: &[u8], digest: &mut [u8]) -> u32 {
+    // SAFETY: each pointer and length are those of one slice, borrowed for the call, and `digest` overlaps nothing.
+    unsafe {
+        gaffreel_sha256(
+            message.as_ptr(),
+            message.len(),
+            digest.as_mut_ptr(),
+            digest.len(),
+        )
+    }
+}
+
+/// The state before the first piece.
+pub fn sha256_new(state: &mut [u8]) -> u32 {
+    // SAFETY: pointer and length are those of one slice, borrowed for the call.
+    unsafe { gaffreel_sha256_new(state.as_mut_ptr(), state.len()) }
+}
+
+/// Takes the next piece.
+pub fn sha256_update(state: &mut [u8], piece: &[u8]) -> u32 {
+    // SAFETY: each pointer and length are those of one slice, borrowed for the call, and `state` overlaps nothing.
+    unsafe { gaffreel_sha256_update(state.as_mut_ptr(), state.len(), piece.as_ptr(), piece.len()) }
+}
+
+/// The digest of the message so far.
+pub fn sha256_finish(state: &[u8], digest: &mut [u8]) -> u32 {
+    // SAFETY: each pointer and length are those of one slice, borrowed for the call, and `digest` overlaps nothing.
+    unsafe {
+        gaffreel_sha256_finish(
+            state.as_ptr(),
+            state.len(),
+            digest.as_mut_ptr(),
+            digest.len(),
+        )
+    }
+}

@@ -1,0 +1,8 @@
+//! Safe Rust over the proved static library, libgaffreel.a.
+
+pub mod ffi;
+mod refusal;
+mod sha256;
+
+pub use refusal::Refusal;
+pub use sha256::{sha256, Sha256, DIGEST_LENGTH, STATE_LENGTH};

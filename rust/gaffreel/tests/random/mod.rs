@@ -1,0 +1,68 @@
+//! Random test cases, the same in each run.
+
+use std::env;
+use std::ops::RangeInclusive;
+
+/// Set to a seed, has each test run the case of that seed alone.
+const SEED_VARIABLE: &str = "GAFFREEL_TEST_SEED";
+
+/// The generator xorshift64* of Marsaglia and Vigna.
+pub struct Random {
+    state: u64,
+}
+
+impl Random {
+    /// Multiplied by an odd constant, so that seeds next to each other give unlike numbers; the state must not be 0.
+    fn from_seed(seed: u64) -> Random {
+        let state = seed.wrapping_mul(0x9e37_79b9_7f4a_7c15);
+        Random {
+            state: if state == 0 { 1 } else { state },
+        }
+    }
+
+    pub fn number(&mut self) -> u64 {
+        self.state ^= self.state >> 12;
+        self.state ^= self.state << 25;
+        self.state ^= self.state >> 27;
+        self.state.wrapping_mul(0x2545_f491_4f6c_dd1d)
+    }
+
+    pub fn length(&mut self, range: RangeInclusive<usize>) -> usize {
+        let choices = (range.end() - range.start() + 1) as u64;
+        range.start() + (self.number() % choices) as usize
+    }
+
+    pub fn fill(&mut self, bytes: &mut [u8]) {
+        for part in bytes.chunks_mut(8) {
+            part.copy_from_slice(&self.number().to_le_bytes()[..part.len()]);
+        }
+    }
+
+    pub fn bytes(&mut self, length: usize) -> Vec<u8> {
+        let mut bytes = vec![0; length];
+        self.fill(&mut bytes);
+        bytes
+    }
+}
+
+/// Runs a case for each seed from 1 to `count`, and prints the seed of one that fails.
+pub fn cases(count: u64, mut case: impl FnMut(&mut Random)) {
+    let mut run = |seed| {
+        let _printed = PrintedOnFailure(seed);
+        case(&mut Random::from_seed(seed));
+    };
+    match env::var(SEED_VARIABLE) {
+        Ok(seed) => run(seed.parse().expect("the seed is a number")),
+        Err(_) => (1..=count).for_each(run),
+    }
+}
+
+struct PrintedOnFailure(u64);
+
+impl Drop for PrintedOnFailure {
+    fn drop(&mut self) {
+        if std::thread::panicking() {
+            eprintln!("the failing case has {SEED_VARIABLE}={}", self.0);
+        }
+    }
+}

@@ -1,0 +1,4 @@
+//! Plain Rust written from the standards, not from the Rattle sources: the proved library is tested against it
+//! and its speed is measured against it.
+
+pub mod sha256;
