@@ -1,35 +1,28 @@
 -- What closing leaves, over plain lists: the padding put together, the words written out, and each way through the calls.
-use Prim.Native.Nat.{ℕ, zero, suc, _+_, _-_, _*_, _/_, _%_, _≤_, _<_}
+use Prim.Native.Nat.{ℕ, _+_, _*_, _≤_, _<_}
+use mathlib.Core.Path.{_≡_, refl, sym, ap, _∙_}
+use mathlib.Core.List.{List, [], _∷_, _++_, append-assoc, append-nil, flatten}
 use native.Mathlib.Nat.{zero-add}
 use native.Mathlib.Numerals.{add-one}
 use native.Mathlib.Omega.{arith}
-use mathlib.Core.Path.{_≡_, refl, sym, ap, _∙_}
-use mathlib.Core.List.{List, [], _∷_, _++_, append-assoc, append-nil, flatten}
-use lib.ListN.{length, getD, take, drop, set, replicate, length-append, length-replicate}
-use lib.Seq.{take-at, take-suc, length-take-le}
+use native.Mathlib.Decide.{decLe}
+use lib.ListN.{length, getD, take, set, replicate, length-append}
+use lib.Seq.{take-suc}
+use borrow.Author.Tests.{le-ltb, lt-ltb}
 use Rattle.octets.specs.Numbers.{be}
 use Rattle.octets.specs.Parts.{part, patch}
 use Rattle.octets.proofs.Numbers.{length-be}
-use Rattle.octets.proofs.Parts.{part-all, take-replicate}
-use native.Mathlib.Decide.{decLe}
-use borrow.Author.Tests.{le-ltb, lt-ltb}
+use Rattle.octets.proofs.Parts.{part-all, take-patch, take-replicate}
 use Rattle.digest.specs.declared.Answer.the-variants.{Taken, TooLong}
 use Rattle.digest.specs.declared.State.{State}
 use Rattle.digest.specs.declared.Updated.{Updated}
 use Rattle.digest.specs.declared.Closed.{Closed}
-use Rattle.digest.specs.Pieces.{limit, freshOf, absorbOf, updateOf, refusedOf, closeOf, finishOf, digestOf}
+use Rattle.digest.specs.Pieces.{limit, freshOf, absorbOf, refusedPieceOf, updateOf, refusedDigestOf, closeOf, finishOf, digestOf}
 use Rattle.digest.specs.Sha256.{sha256}
-use Rattle.digest.specs.Sha256.Promise.{update-taken, update-refused, update-append, addAll, closing, digest-taken}
+use Rattle.digest.specs.Sha256.Promise.{update-taken, update-refused, update-append, closing, digest-taken}
 use Rattle.digest.specs.Padding.{zeroBytesOf, paddingOf, bytesOf}
 
 -- ---- the padding
-
--- a front that ends with a patch
-front-patch : (l : List ℕ) (at : ℕ) (x : List ℕ) → at + length x ≤ length l → take (at + length x) (patch l at x) ≡ take at l ++ x
-front-patch l at x fits =
-    let front : length (take at l) ≡ at = length-take-le at l (omega arith) in
-    let size : length (take at l ++ x) ≡ at + length x = length-append (take at l) x ∙ ap (λ (k : ℕ). k + length x) front in
-    rw (← append-assoc) (take-at (take at l ++ x) (drop (at + length x) l) (at + length x) size)
 
 -- 0x80 and the length, copied into zeros
 pub padded : (c z : ℕ) (x l : List ℕ) → z ≡ zeroBytesOf c → z ≤ 63 → x ≡ be 8 (8 * c) → l ≡ patch (set (replicate 72 0) 0 128) (z + 1) (part x 0 8)
@@ -39,7 +32,7 @@ padded c z x l ez le ex el =
     let size : length x ≡ 8 = ap length ex ∙ length-be 8 (8 * c) in
     let end : z + 9 ≡ z + 1 + length x = omega arith in
     let zeros : take z (replicate {A = ℕ} 71 0) ≡ replicate z 0 = take-replicate z 71 0 (omega arith) in
-    rw (el, part-all x 8 size, end, front-patch (set (replicate 72 0) 0 128) (z + 1) x (omega arith), add-one, zeros, ez, ex)
+    rw (el, part-all x 8 size, end, take-patch (set (replicate 72 0) 0 128) (z + 1) x (omega arith), add-one, zeros, ez, ex)
 
 -- ---- the words of a hash value
 
@@ -57,7 +50,7 @@ pub bytes-turn : (h out b r : List ℕ) (i : ℕ) → i < length h → 4 * i + 4
 bytes-turn h out b r i l fits e eb er =
     let size : length b ≡ 4 = ap length eb ∙ length-be 4 (getD h i 0) in
     let end : 4 * (i + 1) ≡ 4 * i + length b = omega arith in
-    rw (er, part-all b 4 size, end, front-patch out (4 * i) b (omega arith), add-one, take-suc h i 0 l, bytes-append, bytes-one, e, eb)
+    rw (er, part-all b 4 size, end, take-patch out (4 * i) b (omega arith), add-one, take-suc h i 0 l, bytes-append, bytes-one, e, eb)
 
 -- ---- the calls, a way through each at a time
 
@@ -69,13 +62,13 @@ pub closed : (s a : State) (l r : List ℕ) → l ≡ paddingOf (s .count) → a
 unfolding closeOf
 closed s a l r el ea er = rw (er, ea, el)
 
-pub update-past : (s : State) (p : List ℕ) → limit < s .count + length p → record { answer = TooLong; state = s } ≡ updateOf s p
-update-past s p h = sym (update-refused s p h)
+pub update-past : (s : State) (p : List ℕ) (u : Updated) → limit < s .count + length p → u ≡ refusedPieceOf s → u ≡ updateOf s p
+update-past s p u h e = e ∙ sym (update-refused s p h)
 
 pub update-fits : (s t : State) (p : List ℕ) → s .count + length p ≤ limit → t ≡ absorbOf s p → record { answer = Taken; state = t } ≡ updateOf s p
 update-fits s t p h e = rw (e, update-taken s p h)
 
-pub finish-past : (s : State) (r : Closed) → limit < s .count → r ≡ refusedOf → r ≡ finishOf s
+pub finish-past : (s : State) (r : Closed) → limit < s .count → r ≡ refusedDigestOf → r ≡ finishOf s
 unfolding finishOf
 finish-past s r h e = rw (lt-ltb limit (s .count) h, e)
 
@@ -103,13 +96,13 @@ answer-past s p e = side (decLe (s .count + length p) limit)
         let z : Taken ≡ TooLong = sym (ap (λ (u : Updated). u .answer) (update-taken s p h)) ∙ e in
         absurd (let z : _≡_ {A = ℕ} 0 1 = cc in omega arith)
 
-digest-past : (m : List ℕ) (r : Closed) → limit < length m → r ≡ refusedOf → r ≡ digestOf m
+digest-past : (m : List ℕ) (r : Closed) → limit < length m → r ≡ refusedDigestOf → r ≡ digestOf m
 unfolding digestOf
 digest-past m r h e = rw (lt-ltb limit (length m) h, e)
 
 -- a message in one piece
 module _ (m : List ℕ) (u : Updated) (r : Closed) (e : u ≡ updateOf freshOf m) where
-  pub whole-past : u .answer ≡ TooLong → r ≡ refusedOf → r ≡ digestOf m
+  pub whole-past : u .answer ≡ TooLong → r ≡ refusedDigestOf → r ≡ digestOf m
   whole-past a = digest-past m r (rw zero-add at (answer-past freshOf m (rw e at a)))
 
   pub whole-fits : u .answer ≡ Taken → r ≡ finishOf (u .state) → r ≡ digestOf m
@@ -122,7 +115,7 @@ module _ (m : List ℕ) (u : Updated) (r : Closed) (e : u ≡ updateOf freshOf m
 
 -- a message in two pieces
 module _ (p q : List ℕ) (u v : Updated) (r : Closed) (e : u ≡ updateOf freshOf p) where
-  pub first-past : u .answer ≡ TooLong → r ≡ refusedOf → r ≡ digestOf (p ++ q)
+  pub first-past : u .answer ≡ TooLong → r ≡ refusedDigestOf → r ≡ digestOf (p ++ q)
   first-past a = digest-past (p ++ q) r (omega (arith, rw zero-add at (answer-past freshOf p (rw e at a)), length-append p q))
 
   module _ (taken : u .answer ≡ Taken) (f : v ≡ updateOf (u .state) q) where
@@ -132,7 +125,7 @@ module _ (p q : List ℕ) (u v : Updated) (r : Closed) (e : u ≡ updateOf fresh
     total : u .state .count + length q ≡ length (p ++ q)
     total = ap (λ (s : State). s .count + length q) state ∙ rw (count-absorb freshOf p, zero-add, length-append)
 
-    pub both-past : v .answer ≡ TooLong → r ≡ refusedOf → r ≡ digestOf (p ++ q)
+    pub both-past : v .answer ≡ TooLong → r ≡ refusedDigestOf → r ≡ digestOf (p ++ q)
     both-past a = digest-past (p ++ q) r (rw total at (answer-past (u .state) q (rw f at a)))
 
     pub both-fit : v .answer ≡ Taken → r ≡ finishOf (v .state) → r ≡ digestOf (p ++ q)

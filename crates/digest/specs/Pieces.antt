@@ -1,15 +1,14 @@
 -- The digest's calls: what each returns, for any state, piece and message. Document 01, "Digest".
 --
--- limit         : the most bytes that a message may have
--- numberOf a    : document 01's number of the answer a; 0 for an answer that is no refusal
--- freshOf       : the state before any piece
--- heldOf s      : the bytes of the unfinished block, the first (count mod 64) of the tail
--- absorbOf s p  : the state s with the piece p added: whole blocks of the held bytes and p are hashed, what is left is the tail, with zeros behind it
--- updateOf s p  : the call that adds a piece. Past the limit it is refused and the state stays
--- closeOf s     : the digest of all that was added to s, by appending the padding
--- refusedOf     : what closing returns where it is refused: 32 zeros beside the answer
--- finishOf s    : the call that closes. Past the limit it is refused
--- digestOf m    : the call that takes a whole message
+-- limit             : the most bytes that a message may have
+-- numberOf a        : document 01's number of the answer a; 0 for an answer that is no refusal
+-- freshOf           : the state before any piece
+-- heldOf s          : the bytes of the unfinished block, the first (count mod 64) of the tail
+-- absorbOf s p      : the state s with the piece p added: the whole blocks of the held bytes and p are hashed, what is left is the tail, with zeros behind it
+-- updateOf s p      : the call that adds a piece; past the limit it is refused, and the state stays (refusedPieceOf)
+-- closeOf s         : the digest of all that was added to s, by adding the padding
+-- finishOf s        : the call that closes; past the limit it is refused, and 32 zeros stand for the digest (refusedDigestOf)
+-- digestOf m        : the call that takes a whole message, refused likewise
 use Prim.Native.Nat.{ℕ, _+_, _-_, _*_, _/_, _%_, _^_}
 use mathlib.Core.List.{List, _++_}
 use lib.ListN.{length, take, drop, replicate}
@@ -54,20 +53,23 @@ absorbOf s p =
       count = s .count + length p;
     }
 
+abbrev pub refusedPieceOf : State → Updated
+refusedPieceOf s = record { answer = TooLong; state = s }
+
 unfoldable pub updateOf : State → List ℕ → Updated
 updateOf s p =
     pick (ltb limit (s .count + length p))
-    (record { answer = TooLong; state = s })
+    (refusedPieceOf s)
     (record { answer = Taken; state = absorbOf s p })
 
 unfoldable pub closeOf : State → List ℕ
 closeOf s = bytesOf (absorbOf s (paddingOf (s .count)) .words)
 
-abbrev pub refusedOf : Closed
-refusedOf = record { answer = TooLong; digest = replicate 32 0 }
+abbrev pub refusedDigestOf : Closed
+refusedDigestOf = record { answer = TooLong; digest = replicate 32 0 }
 
 unfoldable pub finishOf : State → Closed
-finishOf s = pick (ltb limit (s .count)) refusedOf (record { answer = Taken; digest = closeOf s })
+finishOf s = pick (ltb limit (s .count)) refusedDigestOf (record { answer = Taken; digest = closeOf s })
 
 unfoldable pub digestOf : List ℕ → Closed
-digestOf m = pick (ltb limit (length m)) refusedOf (record { answer = Taken; digest = sha256 m })
+digestOf m = pick (ltb limit (length m)) refusedDigestOf (record { answer = Taken; digest = sha256 m })

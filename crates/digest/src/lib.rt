@@ -8,7 +8,7 @@ mod words;
 
 ghost use mathlib.Core.Path.{_≡_};
 ghost use mathlib.Core.List.{_++_};
-ghost use Rattle.digest.specs.Pieces.{numberOf, freshOf, updateOf, refusedOf, finishOf, digestOf};
+ghost use Rattle.digest.specs.Pieces.{numberOf, freshOf, refusedPieceOf, updateOf, refusedDigestOf, finishOf, digestOf};
 
 // A digest in the making: the hash value of the whole blocks so far, the unfinished block, and how many bytes there were in all.
 // Any value of it may be handed in.
@@ -70,22 +70,26 @@ pub fn fresh() -> State
     }
 }
 
-// A piece added. Refused, with the state as it was, where the total would pass the limit.
+// The refusal of a piece: the state is as it was.
+fn refused_piece(s: State) -> Updated
+    ensures { λ r. ⌜ r ≡ refusedPieceOf s ⌝ }
+{
+    Updated {
+        answer: Answer::TooLong,
+        state: s,
+    }
+}
+
+// A piece added. Refused where the total would pass the limit.
 pub fn update(s: State, piece: &[u8]) -> Updated
     ensures { λ r. ⌜ r ≡ updateOf s (now (piece .entry)) ⌝ }
 {
     let count = s.count;
     if LIMIT < count {
-        return Updated {
-            answer: Answer::TooLong,
-            state: s,
-        };
+        return refused_piece(s);
     }
     if LIMIT - count < piece.len() as u64 {
-        return Updated {
-            answer: Answer::TooLong,
-            state: s,
-        };
+        return refused_piece(s);
     }
     let next = pieces::absorb(s, piece);
     Updated {
@@ -94,9 +98,9 @@ pub fn update(s: State, piece: &[u8]) -> Updated
     }
 }
 
-// What closing returns where it is refused.
-fn refused() -> Closed
-    ensures { λ r. ⌜ r ≡ refusedOf ⌝ }
+// The refusal of a digest.
+fn refused_digest() -> Closed
+    ensures { λ r. ⌜ r ≡ refusedDigestOf ⌝ }
 {
     Closed {
         answer: Answer::TooLong,
@@ -108,9 +112,8 @@ fn refused() -> Closed
 pub fn finish(s: State) -> Closed
     ensures { λ r. ⌜ r ≡ finishOf s ⌝ }
 {
-    let count = s.count;
-    if LIMIT < count {
-        return refused();
+    if LIMIT < s.count {
+        return refused_digest();
     }
     let digest = pieces::close(s);
     Closed {
@@ -126,7 +129,7 @@ pub fn sha256(message: &[u8]) -> Closed
     let all = update(fresh(), message);
     let answer = all.answer;
     let Answer::Taken = answer else {
-        return refused();
+        return refused_digest();
     };
     let s = all.state;
     finish(s)
@@ -139,13 +142,13 @@ pub fn sha256_of_two(first: &[u8], second: &[u8]) -> Closed
     let one = update(fresh(), first);
     let answer = one.answer;
     let Answer::Taken = answer else {
-        return refused();
+        return refused_digest();
     };
     let s = one.state;
     let both = update(s, second);
     let last = both.answer;
     let Answer::Taken = last else {
-        return refused();
+        return refused_digest();
     };
     let t = both.state;
     finish(t)

@@ -14,7 +14,7 @@ use Rattle.digest.specs.declared.State.{State}
 use Rattle.digest.specs.Constants.{initialHash}
 use Rattle.digest.specs.Compression.{hashOf}
 use Rattle.digest.specs.Padding.{paddingOf, bytesOf}
-use Rattle.digest.specs.Pieces.{limit, freshOf, absorbOf, updateOf, closeOf, finishOf, digestOf}
+use Rattle.digest.specs.Pieces.{limit, freshOf, absorbOf, refusedPieceOf, updateOf, closeOf, finishOf, digestOf}
 use Rattle.digest.specs.Sha256.{sha256, paddedOf}
 use Rattle.digest.specs.Sha256.Laws.{length-hash, length-bytesOf, bytes-bytesOf, absorb-append, count-absorb, words-absorb, fresh-holds-nothing}
 
@@ -38,7 +38,7 @@ unfolding updateOf
 update-taken s p fits = rw (le-ltb limit (s .count + length p) fits)
 
 -- and one that does not fit is refused, and the state stays
-pub update-refused : (s : State) (p : List ℕ) → limit < s .count + length p → updateOf s p ≡ record { answer = TooLong; state = s }
+pub update-refused : (s : State) (p : List ℕ) → limit < s .count + length p → updateOf s p ≡ refusedPieceOf s
 unfolding updateOf
 update-refused s p past = rw (lt-ltb limit (s .count + length p) past)
 
