@@ -39,11 +39,10 @@ module _ (t r s l : List ℕ) (b i : ℕ) (reached : r ≡ patch t b (digestsOf 
       rw (part-all d digestSize size, add-one i) (put-behind d (omega arith) ∙ ap (λ (x : List ℕ). patch t b (digestsOf i s l ++ x)) e)
 
   -- the zeros after the last of m digests
-  pub level-end : (m k : ℕ) → i ≡ m → k ≡ parentsOf m → b + k * blockSize ≤ length t
-      → patch r (b + m * digestSize) (replicate (k * blockSize - m * digestSize) 0) ≡ patch t b (levelOf s m l)
+  pub level-end : (m : ℕ) → i ≡ m → b + parentsOf m * blockSize ≤ length t
+      → patch r (b + m * digestSize) (replicate (parentsOf m * blockSize - m * digestSize) 0) ≡ patch t b (levelOf s m l)
   unfolding levelOf
-  level-end m k ei ek fits =
-      rw (ek, ← ei) (put-behind (replicate (parentsOf i * blockSize - i * digestSize) 0) (rw length-replicate (omega arith)))
+  level-end m e fits = rw (← e) (put-behind (replicate (parentsOf i * blockSize - i * digestSize) 0) (rw length-replicate (omega arith)))
 
 -- the block of the data that is read in a turn
 pub data-block : (l : List ℕ) (i : ℕ) → take (i * blockSize + blockSize - i * blockSize) (drop (i * blockSize) l) ≡ blockOf l i

@@ -3,10 +3,20 @@ use crate::block_digest;
 use crate::places;
 ghost use Prim.Native.Nat.{_+_, _-_, _*_, _<_, _≤_};
 ghost use mathlib.Core.Path.{_≡_};
-ghost use lib.ListN.{length};
+ghost use lib.ListN.{length, replicate};
 ghost use Rattle.octets.specs.Parts.{part, patch};
-ghost use Rattle.tree.specs.Places.{blockSize, mostBlocks, longestSalt, parentsOf, levelsOf, treeLength};
+ghost use Rattle.tree.specs.Places.{blockSize, digestSize, mostBlocks, longestSalt, parentsOf, levelsOf, treeLength};
 ghost use Rattle.tree.specs.Tree.{levelOf, treeOf, rootOf};
+
+// Zeros after the m digests of the level that begins at byte base, to the end of its last block.
+fn pad(tree: &mut [u8], base: usize, m: usize)
+    requires { ⌜ (m ≤ mostBlocks) × (base + parentsOf m * blockSize ≤ length (now tree)) ⌝ }
+    ensures { λ r. ⌜ now (tree .exit) ≡ patch (now (tree .entry)) (base + m * digestSize) (replicate (parentsOf m * blockSize - m * digestSize) 0) ⌝ }
+{
+    let used = m * places::DIGEST_SIZE;
+    let all = places::parents(m) * places::BLOCK_SIZE;
+    octets::fill_at(tree, base + used, all - used, 0)
+}
 
 // The level above the m data blocks of the image, put at hash block first.
 fn data_level(tree: &mut [u8], first: usize, salt: &[u8], image: &[u8], m: usize)
@@ -18,22 +28,11 @@ fn data_level(tree: &mut [u8], first: usize, salt: &[u8], image: &[u8], m: usize
     while i < m {
         let at = i * places::BLOCK_SIZE;
         let d = block_digest(salt, &image[at..at + places::BLOCK_SIZE]);
-        octets::copy_at(
-            tree,
-            base + i * places::DIGEST_SIZE,
-            &d,
-            0,
-            places::DIGEST_SIZE,
-        );
+        let to = base + i * places::DIGEST_SIZE;
+        octets::copy_at(tree, to, &d, 0, places::DIGEST_SIZE);
         i += 1;
     }
-    let used = m * places::DIGEST_SIZE;
-    octets::fill_at(
-        tree,
-        base + used,
-        places::parents(m) * places::BLOCK_SIZE - used,
-        0,
-    )
+    pad(tree, base, m)
 }
 
 // The level above the m hash blocks of the tree from block from on, put at block first, right before them.
@@ -46,22 +45,11 @@ fn hash_level(tree: &mut [u8], from: usize, first: usize, salt: &[u8], m: usize)
     while i < m {
         let at = (from + i) * places::BLOCK_SIZE;
         let d = block_digest(salt, &tree[at..at + places::BLOCK_SIZE]);
-        octets::copy_at(
-            tree,
-            base + i * places::DIGEST_SIZE,
-            &d,
-            0,
-            places::DIGEST_SIZE,
-        );
+        let to = base + i * places::DIGEST_SIZE;
+        octets::copy_at(tree, to, &d, 0, places::DIGEST_SIZE);
         i += 1;
     }
-    let used = m * places::DIGEST_SIZE;
-    octets::fill_at(
-        tree,
-        base + used,
-        places::parents(m) * places::BLOCK_SIZE - used,
-        0,
-    )
+    pad(tree, base, m)
 }
 
 // All levels of the tree over the n data blocks of the image, and the root digest.

@@ -48,7 +48,7 @@ pub fn number(a: Answer) -> u32
     }
 }
 
-// The digest of a block, the salt being put before it.
+// The digest of a block, the salt being put before it. Callers have tested both lengths.
 pub(crate) fn block_digest(salt: &[u8], block: &[u8]) -> [u8; 32]
     requires { ⌜ (length (now salt) ≤ longestSalt) × (length (now block) ≤ blockSize) ⌝ }
     ensures { λ r. ⌜ (r ≡ blockDigest (now (salt .entry)) (now (block .entry))) × (length r ≡ 32) ⌝ }

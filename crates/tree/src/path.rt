@@ -85,13 +85,14 @@ pub(crate) fn compare(
     if !stands(top, root, 0) {
         return differs(h);
     }
-    let mut k = h;
-    while 0 < k {
-        k -= 1;
+    let mut left = h;
+    while 0 < left {
+        let k = left - 1;
         let d = digests[k];
         if !stands(d, tree, at[k]) {
             return differs(k);
         }
+        left -= 1;
     }
     Answer::Taken
 }

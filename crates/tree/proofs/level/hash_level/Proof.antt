@@ -39,16 +39,15 @@ loop-again c =
     )
 
 same-length : tie.Need-same-length Inv-loop μ-loop
-same-length c = c .before .before .fill-at .kept .0 ∙ c .before .before .before .before .before .before .loop .inv .1
+same-length c = c .before .before .pad .kept .0 ∙ c .before .before .before .before .before .loop .inv .1
 
 returns : tie.Need-returns Inv-loop μ-loop
 returns c =
-    let a = c .before .before .before .before .before .before .before .before .before .args in
-    let turn = c .before .before .before .before .before .before .loop in
+    let a = c .before .before .before .before .before .before .before .before .args in
+    let turn = c .before .before .before .before .before .loop in
     let below = part (now (a .tree)) (a .from * blockSize) (a .m * blockSize) in
-    c .before .before .fill-at .ensures
-    ∙ level-end (now (a .tree)) (turn .tree) (now (a .salt)) below (a .first * blockSize) (turn .i) (turn .inv .2) (a .m) (c .before .before .before .parents .result)
-    (omega (arith, c .before .before .before .before .before .loop-test .left, turn .inv .0)) (c .before .before .before .parents .ensures .0) (omega (arith, c .before .before .before .parents .ensures .0, c .before .before .before .before .before .before .before .before .before .pre))
+    c .before .before .pad .ensures
+    ∙ level-end (now (a .tree)) (turn .tree) (now (a .salt)) below (a .first * blockSize) (turn .i) (turn .inv .2) (a .m) (omega (arith, c .before .before .before .before .loop-test .left, turn .inv .0)) (omega (arith, c .before .before .before .before .before .before .before .before .pre))
 
 pub hash-level-spec : {M : Type 1} → statement M
 hash-level-spec =
@@ -72,11 +71,6 @@ hash-level-spec =
     (λ c. search needs)
     (λ c. search needs)
     loop-again
-    (λ c. search needs)
-    (λ c. search needs)
-    (λ c κs. search needs)
-    (λ c. search needs)
-    (λ c. search needs)
     (λ c κs. search needs)
     same-length
     returns)

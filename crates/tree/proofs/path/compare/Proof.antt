@@ -1,4 +1,4 @@
--- The digests from place k on agree, so the rows that are left decide.
+-- The digests from place `left` on agree, so the rows of those below decide.
 use Prim.Native.Nat.{_+_, _-_, _≤_}
 use native.Mathlib.Omega.{arith}
 use mathlib.Core.List.{[]}
@@ -17,11 +17,12 @@ use Rattle.tree.proofs.path.compare.Statement.{statement}
 use Rattle.tree.proofs.path.compare.Tie as tie
 
 abbrev Inv-loop : tie.InvT-loop
-Inv-loop h tree root digests at k₀ k =
-    (k ≤ h) × (comparedOf (take (h + 1) digests) (standingOf root tree (take h at)) ≡ comparedOf (take k (take (h + 1) digests)) (take k (standingOf root tree (take h at))))
+Inv-loop h tree root digests at left₀ left =
+    (left ≤ h)
+    × (comparedOf (take (h + 1) digests) (standingOf root tree (take h at)) ≡ comparedOf (take left (take (h + 1) digests)) (take left (standingOf root tree (take h at))))
 
 abbrev μ-loop : tie.MeasureT-loop
-μ-loop h tree root digests at k₀ k = k
+μ-loop h tree root digests at left₀ left = left
 
 returns : tie.Need-returns Inv-loop μ-loop
 returns c =
@@ -42,7 +43,7 @@ loop-holds c =
     (omega arith, top-agrees (a .h) (a .t2) (a .t3) (now (a .tree)) (now (a .root)) (omega arith) (omega arith) e)
 
 stands-requires-2 : tie.Need-stands-requires-2 Inv-loop μ-loop
-stands-requires-2 c κs = omega (arith, c .before .before .before .before .before .before .before .before .pre .2 (c .before .before .loop .k - 1) (omega arith))
+stands-requires-2 c κs = omega (arith, c .before .before .before .before .before .before .before .before .pre .2 (c .before .before .loop .left - 1) (omega arith))
 
 returns-2 : tie.Need-returns-2 Inv-loop μ-loop
 returns-2 c =
@@ -52,7 +53,7 @@ returns-2 c =
     let n : length (a .t3) ≡ mostLevels + 1 = omega arith in
     let e = sym (c .before .before .stands2 .ensures) ∙ not-true _ (c .before .if2 .taken) in
     c .differs2 .ensures
-    ∙ sym (turn-differs (a .h) (a .t2) (a .t3) (now (a .tree)) (now (a .root)) (omega arith) (omega arith) (turn .k) (c .before .before .before .before .loop-test .taken) (turn .inv .0) (turn .inv .1) e)
+    ∙ sym (turn-differs (a .h) (a .t2) (a .t3) (now (a .tree)) (now (a .root)) (omega arith) (omega arith) (turn .left) (c .before .before .before .before .loop-test .taken) (turn .inv .0) (turn .inv .1) e)
 
 loop-again : tie.Need-loop-again Inv-loop μ-loop
 loop-again c =
@@ -61,13 +62,13 @@ loop-again c =
     let m : length (a .t2) ≡ mostLevels + 1 = omega arith in
     let n : length (a .t3) ≡ mostLevels + 1 = omega arith in
     let e = sym (c .before .stands2 .ensures) ∙ not-false _ (c .if2 .left) in
-    (omega arith, turn-agrees (a .h) (a .t2) (a .t3) (now (a .tree)) (now (a .root)) (omega arith) (omega arith) (turn .k) (c .before .before .before .loop-test .taken) (turn .inv .0) (turn .inv .1) e)
+    (omega arith, turn-agrees (a .h) (a .t2) (a .t3) (now (a .tree)) (now (a .root)) (omega arith) (omega arith) (turn .left) (c .before .before .before .loop-test .taken) (turn .inv .0) (turn .inv .1) e)
 
 returns-3 : tie.Need-returns-3 Inv-loop μ-loop
 unfolding pathRows
 returns-3 c =
     let turn = c .before .loop in
-    let z : turn .k ≡ 0 = omega arith in
+    let z : turn .left ≡ 0 = omega arith in
     sym (rw z at (turn .inv .1))
 
 pub compare-spec : {M : Type 1} → statement M
@@ -90,6 +91,7 @@ compare-spec =
     stands-requires-2
     (λ c κs. search needs)
     returns-2
+    (λ c. search needs)
     (λ c. search needs)
     loop-again
     returns-3)
