@@ -1,0 +1,54 @@
+#!/usr/bin/env bash
+# Has veritysetup make each tree of the program tree_vectors again, and compares root digests and trees with the file that the
+# program is held to. veritysetup works on plain files here. Where it isn't there, Debian's package cryptsetup-bin is installed.
+set -euo pipefail
+cd "$(dirname "$0")/.."
+
+file=crates/tree_vectors/stdout
+
+if ! command -v veritysetup >/dev/null; then
+    echo "installing cryptsetup-bin, for veritysetup"
+    {
+        apt-get install -y -q cryptsetup-bin || { apt-get update -q && apt-get install -y -q cryptsetup-bin; }
+    } >/dev/null 2>&1 || {
+        echo "cryptsetup-bin can't be installed"
+        exit 1
+    }
+fi
+
+work=$(mktemp -d)
+trap 'rm -rf "$work"' EXIT
+
+# COUNT bytes of the program's patterns: byte i is START + i * X + (i div 4096) * Y, modulo 256.
+pattern() {
+    python3 -c '
+import sys
+count, start, x, y = map(int, sys.argv[1:])
+sys.stdout.buffer.write(bytes((start + i * x + i // 4096 * y) % 256 for i in range(count)))' "$@"
+}
+
+expected() {
+    local count length salt root tree
+    pattern $((300 * 4096)) 0 7 13 >"$work/image"
+    for count in 2 127 128 129 300; do
+        head -c $((count * 4096)) "$work/image" >"$work/data"
+        for length in 0 8 32; do
+            salt=$(pattern "$length" 5 31 0 | od -An -v -tx1 | tr -d ' \n')
+            rm -f "$work/tree"
+            root=$(veritysetup format --no-superblock --hash=sha256 --data-block-size=4096 --hash-block-size=4096 \
+                --salt="${salt:--}" "$work/data" "$work/tree" | sed -n 's/^Root hash:[[:space:]]*//p')
+            tree=$(sha256sum <"$work/tree")
+            echo "count $count salt $length root $root tree ${tree%% *} accepted $count"
+        done
+    done
+}
+
+if [ ! -f "$file" ]; then
+    echo "$file is missing"
+    exit 1
+fi
+if ! expected | diff <(grep '^count .* accepted ' "$file") -; then
+    echo "$file differs from what veritysetup makes"
+    exit 1
+fi
+echo "$file: all 15 trees and root digests agree with veritysetup's"
