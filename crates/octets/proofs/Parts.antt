@@ -184,6 +184,14 @@ bytes-part a n h = bytes-take n (bytes-drop a h)
 pub bytes-patch : (at : ℕ) {l s : List ℕ} → Bytes l → Bytes s → Bytes (patch l at s)
 bytes-patch at {l} {s} hl hs = bytes-append (bytes-take at hl) (bytes-append hs (bytes-drop (at + length s) hl))
 
+-- ---- a part of a common front
+
+pub part-low : (x y : List ℕ) (n : ℕ) → part x 0 n ≡ part y 0 n → (b m : ℕ) → b + m ≤ n → part x b m ≡ part y b m
+part-low x y n e b m h =
+    let z : 0 + b ≡ b = omega arith in
+    let p : (l : List ℕ) → part (part l 0 n) b m ≡ part l b m = λ l. part-part l 0 n b m h ∙ ap (λ (k : ℕ). part l k m) z in
+    sym (p x) ∙ ap (λ (l : List ℕ). part l b m) e ∙ p y
+
 -- ---- a front and a rest of one byte repeated
 
 pub take-replicate : (n m x : ℕ) → n ≤ m → take n (replicate m x) ≡ replicate n x
