@@ -1,20 +1,19 @@
 -- Regions of a volume: the data sector and the tag of each logical sector lie apart from one another and behind the journal.
-use Prim.Native.Nat.{ℕ, zero, suc, _+_, _-_, _*_, _/_, _%_, _^_, _≤_, _<_}
-use mathlib.Core.Bool.{Bool, true, false, not, _&&_, _||_}
-use mathlib.Core.Path.{_≡_, refl, sym, ap, _∙_, subst}
-use mathlib.Core.Logic.{_≢_, _⊎_, inl, inr}
-use mathlib.Core.List.{List, [], _∷_, _++_}
+use Prim.Native.Nat.{ℕ, suc, _+_, _-_, _*_, _/_, _%_, _≤_, _<_}
+use mathlib.Core.Bool.{Bool, true, false, _&&_, _||_}
+use mathlib.Core.Path.{_≡_, refl, sym, ap, _∙_}
+use mathlib.Core.Logic.{_≢_}
+use mathlib.Core.List.{List}
 use native.Mathlib.Omega.{arith}
-use native.Mathlib.Decide.{decLe, decLt}
+use native.Mathlib.Decide.{decLt}
 use native.Mathlib.Nat.{mul-le-mul-right, suc-mul, mod-lt, div-add-mod'}
 use lib.Pow.{pow-pos}
 use lib.ListN.{length}
-use lib.Dec.{leb, ltb, eqb}
+use lib.Dec.{leb, eqb}
 use borrow.Author.Tests.{eqb-true, leb-true}
-use Rattle.octets.specs.Choice.{pick}
 use Rattle.octets.specs.Parts.{part, patch}
 use Rattle.octets.proofs.Parts.{part-patch-before, part-patch-after}
-use Rattle.model.specs.Layout.{mostReserved, leastShift, mostShift, mostSections, mostProvided, entryCount, perSector, sectionSize, runLength, tagArea, sectionAt, base, runAt, dataAt, tagPlace, tagByte, tagSector, tagOffset, needed, layoutOk, widthOk}
+use Rattle.model.specs.Layout.{mostReserved, leastShift, mostShift, mostSections, mostProvided, sectionSize, runLength, tagArea, sectionAt, base, dataAt, tagPlace, tagByte, tagSector, tagOffset, needed, layoutOk, widthOk}
 use Rattle.model.specs.declared.Layout.{Layout}
 
 pub data Apart (a n b m : ℕ) : Type 0 where
@@ -33,6 +32,11 @@ pub data Sizes (t : ℕ) : Type 0 where
   eight : t ≡ 8 → Sizes t
   sixteen : t ≡ 16 → Sizes t
   thirty-two : t ≡ 32 → Sizes t
+
+pub size-bound : {t : ℕ} → Sizes t → t ≤ 32
+size-bound (eight e) = omega arith
+size-bound (sixteen e) = omega arith
+size-bound (thirty-two e) = omega arith
 
 pub record Ranged (g : Layout) : Type 0 where
   pub r : g .reserved ≤ mostReserved

@@ -1,41 +1,33 @@
 -- Writes and flushes keep the invariant.
-use Prim.Native.Nat.{ℕ, zero, suc, _+_, _-_, _*_, _/_, _%_, _^_, _≤_, _<_}
+use Prim.Native.Nat.{ℕ, zero, suc, _+_, _^_, _<_}
 use mathlib.Core.Bool.{Bool, true, false, not, _&&_}
 use mathlib.Core.Path.{_≡_, refl, sym, ap, _∙_, subst}
 use mathlib.Core.Logic.{_≢_}
-use mathlib.Core.List.{List, [], _∷_, _++_}
+use mathlib.Core.List.{List}
 use native.Mathlib.Omega.{arith}
 use native.Mathlib.Numerals.{add-one}
-use native.Mathlib.Nat.{mod-lt}
-use native.Mathlib.Decide.{decLe, decLt, ℕ-discrete}
-use lib.ListN.{length, getD, length-append}
-use lib.Dec.{leb, ltb, eqb}
-use borrow.Author.Tests.{eqb-true, eqb-false, eq-eqb, ne-eqb, lt-ltb, le-ltb, le-leb, lt-leb, leb-false, ltb-false, not-false, not-true}
+use native.Mathlib.Decide.{ℕ-discrete}
+use lib.ListN.{length}
+use lib.Dec.{eqb}
+use borrow.Author.Tests.{eqb-true, eq-eqb, ne-eqb, lt-ltb, leb-false}
 use Rattle.octets.specs.Choice.{pick, firstMet, Unmet}
 use Rattle.octets.proofs.Choice.{unmet}
-use Rattle.octets.specs.Parts.{part}
-use Rattle.octets.specs.Sectors.{sectorAt, putSector}
-use Rattle.model.specs.Layout.{entryCount, perSector, sectionSize, sectionAt, needed, layoutOk}
-use Rattle.model.specs.Section.{Entry, unused, idOf, withId, entryOf, putEntry, greatestIn}
-use Rattle.model.specs.Journal.{sectionOf, greatestId}
+use Rattle.model.specs.Layout.{entryCount, sectionSize}
+use Rattle.model.specs.Section.{Entry, entryOf, putEntry}
 use Rattle.model.specs.Tag.{Tag}
-use Rattle.model.specs.State.{Verdict, passed, refused, lastId, sectorOk, volumeLoanOk, stateOk, stagingOk, isFilling}
+use Rattle.model.specs.State.{Verdict, passed, refused, lastId, sectorOk, stateOk, stagingOk, isFilling}
 use Rattle.model.specs.declared.Refusal.{Refusal}
-use Rattle.model.specs.Write.{newEntry, writeRows, WriteResult, writeBy, writeOf}
-use Rattle.model.specs.Flush.{flushRows, flushBy, flushOf}
-use Rattle.model.specs.Ledger.{Write, Contents, Ledger}
-use Rattle.model.specs.Ledger.{wrote, flushed, afterWrite, afterFlush, note}
-use Rattle.model.specs.World.{writeTaken, flushTaken, writeWorld, flushWorld, Live, off, on, World}
-use Rattle.model.proofs.Replays.{Which, isTrue, isFalse, which}
+use Rattle.model.specs.Write.{newEntry, writeRows, WriteResult, writeOf}
+use Rattle.model.specs.Flush.{flushRows, flushOf}
+use Rattle.model.specs.Ledger.{Ledger, wrote, flushed, afterWrite, note}
+use Rattle.model.specs.World.{writeTaken, flushTaken, writeWorld, flushWorld, Live, on, World}
 use Rattle.model.proofs.Sections.{length-putEntry, entryOf-put-same, entryOf-put-other}
-use Rattle.model.proofs.Journals.{writeOfEntry, batchOf, greatest-ge, top-ge}
-use Rattle.model.proofs.Addresses.{Ranged, and-both}
-use Rattle.model.proofs.Homes.{Home}
-use Rattle.model.proofs.Invariant.{stateAt, Good, Disk, Staged, AtFilling, AtCommit, new, old, Lives, dead, filling, committing, homing, recovering}
+use Rattle.model.proofs.Journals.{batchOf}
+use Rattle.model.proofs.Addresses.{and-both}
+use Rattle.model.proofs.Invariant.{Setting, stateAt, Good, Disk, AtFilling, old, Lives, filling, committing, writingBack, recovering}
 use Rattle.model.proofs.Steps.{Inv, never, length-batch}
 use Rattle.model.specs.declared.Layout.{Layout}
-use Rattle.model.specs.declared.Phase.{Phase}
-use Rattle.model.specs.declared.Phase.the-variants.{Filling, Committing, WritingBack, Recovering}
+use Rattle.model.specs.declared.Phase.the-variants.{Filling}
 use Rattle.model.specs.declared.State.{State}
 use Rattle.model.specs.declared.Flushed.{Flushed}
 
@@ -60,11 +52,9 @@ pub batch-cong : (t : ℕ) (st st′ : List ℕ) (n : ℕ) → ((i : ℕ) → i 
 batch-cong t st st′ zero h = refl
 batch-cong t st st′ (suc n) h = rw (batch-cong t st st′ n (λ i l. h i (omega arith)), h n (omega arith))
 
-module _ (tag : Tag) (g : Layout) (v₀ : List ℕ) (R : Ranged g) (ok : layoutOk g ≡ true) (pos : 0 < perSector (g .width))
-    (sz : (s : ℕ) (b : List ℕ) → length (tag s b) ≡ g .width) (room₀ : needed g * 512 ≤ length v₀) (wholes₀ : volumeLoanOk v₀ ≡ true)
-    (N : ℕ) (len : length v₀ ≡ N * 512) where
+module _ (tag : Tag) (g : Layout) (v₀ : List ℕ) (X : Setting tag g v₀) where
   abbrev I : World → Ledger → Type 0
-  I = Inv tag g v₀ R ok pos sz room₀ wholes₀ N len
+  I = Inv tag g v₀ X
 
   abbrev L : List ℕ → Ledger → Live → Type 0
   L = Lives tag g v₀
@@ -76,7 +66,7 @@ module _ (tag : Tag) (g : Layout) (v₀ : List ℕ) (R : Ranged g) (ok : layoutO
   pub filled : (v : List ℕ) (l : Ledger) (s : State) (st : List ℕ) → L v l (on s st) → isFilling (s .phase) ≡ true → Filled v l s st
   filled v l s st (filling n m _ D A) q = it n m st D A
   filled v l s st (committing n m j _ p A) q = never q
-  filled v l s st (homing n m i h _ D A) q = never q
+  filled v l s st (writingBack n m i h _ D A) q = never q
   filled v l s st (recovering m k _ D A) q = never q
 
   -- ---- write
@@ -91,7 +81,7 @@ module _ (tag : Tag) (g : Layout) (v₀ : List ℕ) (R : Ranged g) (ok : layoutO
   write-refused : (v : List ℕ) (l : Ledger) (s : State) (st : List ℕ) (n : ℕ) (b : List ℕ) → L v l (on s st)
       → (r : Refusal) → writeVerdict s st n b ≡ refused r → WriteLeads v l n b (writeOf tag s st n b)
   unfolding writeOf
-  write-refused v l s st n b A r e = rw e (record { lives = A; quietly = λ q. never q })
+  write-refused v l s st n b A r e = rw e (record { lives = A; fills = λ q. never q })
 
   write-unmet : (s : State) (st : List ℕ) (n : ℕ) (b : List ℕ) → writeVerdict s st n b ≡ passed → Unmet (writeRows s st n b)
   write-unmet s st n b e = unmet (writeRows s st n b) passed (refused-not _, (refused-not _, (refused-not _, (refused-not _, tt)))) e
@@ -121,19 +111,19 @@ module _ (tag : Tag) (g : Layout) (v₀ : List ℕ) (R : Ranged g) (ok : layoutO
     st′ = putEntry (g .width) st cnt e
 
     s64 : n < 2 ^ 64
-    s64 = omega (arith, T .low, R .p-high)
+    s64 = omega (arith, T .low, X .ranged .p-high)
 
     there : entryOf (g .width) st′ cnt ≡ e
-    there = entryOf-put-same (g .width) pos st cnt e (A .staged .size) (T .free) s64 (T .whole) (sz n b)
+    there = entryOf-put-same (g .width) (X .some) st cnt e (A .staged .size) (T .free) s64 (T .whole) ((X .tags) n b)
 
     elsewhere : (i : ℕ) → i < entryCount (g .width) → i ≢ cnt → entryOf (g .width) st′ i ≡ entryOf (g .width) st i
-    elsewhere = entryOf-put-other (g .width) pos st cnt e (A .staged .size) (T .free) s64 (T .whole) (sz n b)
+    elsewhere = entryOf-put-other (g .width) (X .some) st cnt e (A .staged .size) (T .free) s64 (T .whole) ((X .tags) n b)
 
     put-filling : AtFilling tag g v₀ v (afterWrite n b l) (cnt + 1) m st′
     put-filling =
         record {
           staged = record {
-            size = length-putEntry (g .width) pos st cnt e (A .staged .size) (T .free) s64 (T .whole) (sz n b) ∙ A .staged .size;
+            size = length-putEntry (g .width) (X .some) st cnt e (A .staged .size) (T .free) s64 (T .whole) ((X .tags) n b) ∙ A .staged .size;
             count = omega (arith, T .free);
             goods = λ i k. go i k (ℕ-discrete i cnt);
             free = λ i k h. rw (elsewhere i h (omega arith)) (A .staged .free i (omega arith) h);
@@ -160,7 +150,7 @@ module _ (tag : Tag) (g : Layout) (v₀ : List ℕ) (R : Ranged g) (ok : layoutO
       (record {
         lives = filling (cnt + 1) m (putEntry (g .width) st cnt (newEntry tag (stateAt g cnt m Filling) st n b)) D
             (put-filling v l cnt m st n b A (write-rules cnt m st n b z));
-        quietly = λ q. never q;
+        fills = λ q. never q;
       })
 
   pub write-keeps : (v : List ℕ) (l : Ledger) (s : State) (st : List ℕ) (n : ℕ) (b : List ℕ) → L v l (on s st)
@@ -185,7 +175,7 @@ module _ (tag : Tag) (g : Layout) (v₀ : List ℕ) (R : Ranged g) (ok : layoutO
   flush-refused : (v : List ℕ) (l : Ledger) (s : State) (st : List ℕ) → L v l (on s st)
       → (r : Refusal) → flushVerdict s ≡ refused r → FlushLeads v l st (flushOf s)
   unfolding flushOf
-  flush-refused v l s st A r e = rw e (record { lives = A; quietly = λ q. never q })
+  flush-refused v l s st A r e = rw e (record { lives = A; fills = λ q. never q })
 
   flush-unmet : (s : State) → flushVerdict s ≡ passed → Unmet (flushRows s)
   flush-unmet s e = unmet (flushRows s) passed (refused-not _, (refused-not _, (refused-not _, tt))) e
@@ -205,7 +195,7 @@ module _ (tag : Tag) (g : Layout) (v₀ : List ℕ) (R : Ranged g) (ok : layoutO
       (record {
         lives = filling cnt m st D
             (record { staged = A .staged; batch = A .batch; due = rw (eq-eqb (length (l .batch)) 0 n); next = A .next; clean = A .clean });
-        quietly = λ q. never q;
+        fills = λ q. never q;
       })
 
   flush-begins : (v : List ℕ) (l : Ledger) (cnt m : ℕ) (st : List ℕ) → Disk tag g v₀ v (l .contents) → AtFilling tag g v₀ v l cnt m st
@@ -232,7 +222,7 @@ module _ (tag : Tag) (g : Layout) (v₀ : List ℕ) (R : Ranged g) (ok : layoutO
               torn = record { long = refl; other = λ a f. refl; each = λ i h. old refl };
               here = λ i h. absurd (omega arith);
             });
-        quietly = λ q. never q;
+        fills = λ q. never q;
       })
 
   pub flush-keeps : (v : List ℕ) (l : Ledger) (s : State) (st : List ℕ) → L v l (on s st) → FlushLeads v l st (flushOf s)

@@ -1,29 +1,26 @@
--- ORDER 9's form of the commit: from a volume u as of the last barrier, any of the section's M stores have landed, in any order.
+-- A commit of which any of the stores have landed, in any order: from the volume u as the flush found it, the ids, the replay and the homes afterwards.
 -- None or some: the volume is as durable as u was. All: the batch is entered. (The base is the case in which the first j have landed.)
 use Prim.Native.Nat.{ℕ, zero, suc, _+_, _-_, _*_, _/_, _%_, _^_, _≤_, _<_}
-use mathlib.Core.Bool.{Bool, true, false, not, _&&_}
-use mathlib.Core.Path.{_≡_, refl, sym, ap, _∙_, subst}
+use mathlib.Core.Bool.{Bool, true, false}
+use mathlib.Core.Path.{_≡_, sym, ap, _∙_, subst}
 use mathlib.Core.Logic.{_≢_}
-use mathlib.Core.List.{List, [], _∷_, _++_}
+use mathlib.Core.List.{List, _++_}
 use native.Mathlib.Omega.{arith}
-use native.Mathlib.Decide.{decLe, decLt, ℕ-discrete}
+use native.Mathlib.Decide.{decLt, ℕ-discrete}
 use native.Mathlib.Nat.{mul-le-mul-right, suc-mul, mod-lt, div-add-mod', add-mod-right}
 use lib.ListN.{length, getD}
 use Rattle.octets.specs.Choice.{pick}
 use Rattle.model.specs.Guarantees.{Outside}
-use Rattle.octets.specs.Parts.{part}
-use Rattle.octets.specs.Sectors.{sectorAt, putSector}
-use Rattle.octets.proofs.Parts.{length-part}
-use Rattle.model.specs.Layout.{entryCount, perSector, sectionSize, sectionAt, needed}
-use Rattle.model.specs.Section.{Entry, unused, idOf, withId, entryOf, wholeId, greatestIn, allBelow}
+use Rattle.octets.specs.Sectors.{sectorAt}
+use Rattle.model.specs.Layout.{entryCount, sectionSize}
+use Rattle.model.specs.Section.{unused, idOf, entryOf, wholeId, greatestIn, allBelow}
 use Rattle.model.specs.Journal.{sealed, dueIds, sectionOf, greatestId, wholeIds, Replayed, usedOf, replay}
 use Rattle.model.specs.Tag.{Tag}
 use Rattle.model.specs.Ledger.{Write, Contents, entered}
 use Rattle.model.proofs.Replays.{mentions, mentions-append, or-right, Clean, Durable, Pass, tear, commit, pass-starts, durable-map, Which, isTrue, isFalse, which}
-use Rattle.model.proofs.Journals.{id-sealed, entry-sealed, top-section, top-least, due-of, due-le, due-new, Every, every-append, every-behind, writes, writes-append, batchOf, greatest-ge, greatest-le, whole-all, whole-not, whole-le, top-ge, top-le, below-all, used-batch, used-every, others, was-torn, was-oldest, is-torn, is-newest}
-use Rattle.model.proofs.Addresses.{Ranged}
+use Rattle.model.proofs.Journals.{id-sealed, entry-sealed, top-section, top-least, due-of, due-le, due-new, Every, writes, writes-append, batchOf, whole-all, whole-not, whole-le, top-ge, top-le, used-batch, used-every, others, was-torn, was-oldest, is-torn, is-newest}
 use Rattle.model.proofs.Homes.{Home}
-use Rattle.model.proofs.Invariant.{Good, GoodSection, Disk, Staged}
+use Rattle.model.proofs.Invariant.{Setting, Good, GoodSection, Disk, Staged}
 use Rattle.model.specs.declared.Layout.{Layout}
 
 -- two numbers that leave one rest are a divisor apart
@@ -55,7 +52,7 @@ fails (suc n) f e = go (fails n f) (which (allBelow n f)) (which (f n))
     go ih (isTrue q) (isFalse r) = at n (omega arith) r
     go ih (isTrue q) (isTrue r) = absurd (let t : allBelow (suc n) f ≡ true = rw (q, r) in let z : _≡_ {A = ℕ} 0 1 = cc in omega arith)
 
-module _ (tag : Tag) (g : Layout) (v₀ : List ℕ) (R : Ranged g) (pos : 0 < perSector (g .width))
+module _ (tag : Tag) (g : Layout) (v₀ : List ℕ) (X : Setting tag g v₀)
     (u : List ℕ) (c : Contents) (D : Disk tag g v₀ u c) (C : Clean (g .provided) (Home g tag u) c)
     (n m : ℕ) (st : List ℕ) (S : Staged tag g v₀ st n) (given : m < 2 ^ 64 - 1) (nxt : m ≡ greatestId g u + 1)
     (w : List ℕ) (landed : ℕ → Bool)
@@ -69,7 +66,7 @@ module _ (tag : Tag) (g : Layout) (v₀ : List ℕ) (R : Ranged g) (pos : 0 < pe
   k = (m - 1) % g .sections
 
   kl : k < g .sections
-  kl = mod-lt (m - 1) (R .s-low)
+  kl = mod-lt (m - 1) (X .ranged .s-low)
 
   stamp : (i : ℕ) → i < sectionSize (g .width) → idOf (sealed g st m i) ≡ m
   stamp i h = id-sealed g st m i (S .size) h (omega (arith, given))
@@ -199,10 +196,10 @@ module _ (tag : Tag) (g : Layout) (v₀ : List ℕ) (R : Ranged g) (pos : 0 < pe
         omega (arith, top-le-m, new-id 0 (omega arith) (all 0 (omega arith)))
 
     entries : (i : ℕ) → i < entryCount (g .width) → entryOf (g .width) (sectionOf g w k) i ≡ entryOf (g .width) st i
-    entries = entry-sealed g pos (sectionOf g w k) st m (S .size) stamped
+    entries = entry-sealed g (X .some) (sectionOf g w k) st m (S .size) stamped
 
     used : (i : ℕ) → i < n → entryOf (g .width) st i .sector ≢ unused
-    used i h q = absurd (omega (arith, S .goods i h .low, R .p-high, q))
+    used i h q = absurd (omega (arith, S .goods i h .low, X .ranged .p-high, q))
 
     batch-in : writes (usedOf (g .width) k (sectionOf g w k)) ≡ batchOf (g .width) st n
     batch-in = used-batch (g .width) k (sectionOf g w k) st n (S .count) entries used (S .free)
@@ -241,7 +238,7 @@ module _ (tag : Tag) (g : Layout) (v₀ : List ℕ) (R : Ranged g) (pos : 0 < pe
         pl i h z (no q) = rw (ids-same i q) (D .places i h (rw (ids-same i q) at z))
 
         wi : (i : ℕ) → i < g .sections → wholeIds g w i ≢ 0 → Dec (i ≡ k) → greatestId g w < wholeIds g w i + g .sections
-        wi i h z (yes q) = omega (arith, top-le-m, ap (wholeIds g w) q ∙ whole-now, R .s-low)
+        wi i h z (yes q) = omega (arith, top-le-m, ap (wholeIds g w) q ∙ whole-now, X .ranged .s-low)
         wi i h z (no q) = rw (ids-same i q) (omega (arith, top-le-m, in-window i h q (rw (ids-same i q) at z)))
 
     -- the batch is mentioned by what is to be replayed, and a pass over it begins

@@ -1,36 +1,32 @@
 -- A store of committing: the invariant afterwards.
-use Prim.Native.Nat.{ℕ, zero, suc, _+_, _-_, _*_, _/_, _%_, _^_, _≤_, _<_}
-use mathlib.Core.Bool.{Bool, true, false, not}
+use Prim.Native.Nat.{ℕ, _+_, _-_, _*_, _%_, _≤_, _<_}
+use mathlib.Core.Bool.{true}
 use mathlib.Core.Path.{_≡_, refl, sym, ap, _∙_, subst}
 use mathlib.Core.Logic.{_≢_}
-use mathlib.Core.List.{List, [], _∷_, _++_}
+use mathlib.Core.List.{List, []}
 use native.Mathlib.Omega.{arith}
-use native.Mathlib.Decide.{decLt, ℕ-discrete}
+use native.Mathlib.Decide.{ℕ-discrete}
 use native.Mathlib.Nat.{mod-lt}
 use lib.ListN.{length}
-use lib.Dec.{ltb}
-use borrow.Author.Tests.{lt-ltb, le-ltb}
-use Rattle.octets.specs.Choice.{pick}
-use Rattle.octets.specs.Parts.{part, same}
+use Rattle.octets.specs.Parts.{same}
 use Rattle.octets.specs.Sectors.{sectorAt, putSector}
-use Rattle.octets.proofs.Parts.{length-part}
+use Rattle.octets.proofs.Parts.{eq-same}
 use Rattle.octets.proofs.Sectors.{sector-put-same, sector-put-other, length-put}
-use Rattle.model.specs.Layout.{perSector, sectionSize, sectionAt, needed}
-use Rattle.model.specs.Section.{withId, entryOf}
+use Rattle.model.specs.Layout.{sectionSize, sectionAt}
+use Rattle.model.specs.Section.{entryOf}
 use Rattle.model.proofs.Plans.{home-some}
-use Rattle.model.specs.Journal.{sealed, sectionOf}
+use Rattle.model.specs.Journal.{sealed}
 use Rattle.model.specs.Tag.{Tag}
 use Rattle.model.specs.Ledger.{Write, Ledger, entered}
 use Rattle.model.proofs.Replays.{Pass}
 use Rattle.model.proofs.Journals.{length-sealed, batchOf}
-use Rattle.model.proofs.Addresses.{Ranged, section-low, base-room}
+use Rattle.model.proofs.Addresses.{section-low, base-room}
 use Rattle.model.proofs.Homes.{Home}
-use Rattle.model.proofs.Invariant.{Disk, slot, Landed, new, old, Torn, AtCommit, AtHome}
-use Rattle.octets.proofs.Parts.{eq-same}
+use Rattle.model.proofs.Invariant.{Setting, Disk, slot, Landed, new, old, Torn, AtCommit, AtHome}
 use Rattle.model.proofs.Cuts.{whole-disk, whole-top, whole-named, whole-starts}
 use Rattle.model.specs.declared.Layout.{Layout}
 
-module _ (tag : Tag) (g : Layout) (v₀ : List ℕ) (R : Ranged g) (room₀ : needed g * 512 ≤ length v₀) (N : ℕ) (len : length v₀ ≡ N * 512)
+module _ (tag : Tag) (g : Layout) (v₀ : List ℕ) (X : Setting tag g v₀)
     (v : List ℕ) (l : Ledger) (n m j : ℕ) (st : List ℕ) (A : AtCommit tag g v₀ v l n m j st) where
   module _ (p : j < sectionSize (g .width)) where
     abbrev c : List ℕ
@@ -47,7 +43,7 @@ module _ (tag : Tag) (g : Layout) (v₀ : List ℕ) (R : Ranged g) (room₀ : ne
 
     inside : (spot + 1) * 512 ≤ length v
     inside =
-        omega (arith, section-low g R ((m - 1) % g .sections) (mod-lt (m - 1) (R .s-low)), base-room g R, room₀, A .torn .long, A .disk .sized)
+        omega (arith, section-low g (X .ranged) ((m - 1) % g .sections) (mod-lt (m - 1) (X .ranged .s-low)), base-room g (X .ranged), (X .room), A .torn .long, A .disk .sized)
 
     elsewhere : (a : ℕ) → a ≢ spot → sectorAt w a ≡ sectorAt v a
     elsewhere a q = sector-put-other v spot c c-length inside a q
@@ -95,14 +91,14 @@ module _ (tag : Tag) (g : Layout) (v₀ : List ℕ) (R : Ranged g) (room₀ : ne
         go i h (no q) = elsewhere (slot tag g v₀ m + i) (omega arith) ∙ A .here i (omega arith)
 
   -- the last store has been afterEffect
-  module _ (pos : 0 < perSector (g .width)) (p : j ≡ sectionSize (g .width)) where
+  module _ (p : j ≡ sectionSize (g .width)) where
     all : (i : ℕ) → i < sectionSize (g .width) → same (sectorAt v (slot tag g v₀ m + i)) (sealed g st m i) ≡ true
     all i h = rw (A .here i (omega arith)) (eq-same (sealed g st m i) (sealed g st m i) refl)
 
     pub seal-disk : Disk tag g v₀ v (entered (l .contents) (l .batch))
     seal-disk =
         subst (λ (b : List Write). Disk tag g v₀ v (entered (l .contents) b)) (A .batch)
-        (whole-disk tag g v₀ R room₀ N len pos (A .u) (l .contents) (A .disk) (A .clean) n m st (A .staged) (A .given) (A .next) j v (A .torn) all)
+        (whole-disk tag g v₀ X (A .u) (l .contents) (A .disk) (A .clean) n m st (A .staged) (A .given) (A .next) j v (A .torn) all)
 
     pub seal-ends : (l′ : Ledger) → l′ .contents ≡ entered (l .contents) (l .batch) → l′ .batch ≡ [] → l′ .due ≡ 0
         → AtHome tag g v₀ v l′ n (m + 1) 0 0 st
@@ -112,11 +108,11 @@ module _ (tag : Tag) (g : Layout) (v₀ : List ℕ) (R : Ranged g) (room₀ : ne
           empty = eb;
           due = ed;
           next = ap (λ (x : ℕ). x + 1)
-              (sym (whole-top tag g v₀ R room₀ N len pos (A .u) (l .contents) (A .disk) (A .clean) n m st (A .staged) (A .given) (A .next) j v (A .torn) all));
+              (sym (whole-top tag g v₀ X (A .u) (l .contents) (A .disk) (A .clean) n m st (A .staged) (A .given) (A .next) j v (A .torn) all));
           place = A .some;
           half = omega (arith, home-some g (entryOf (g .width) st 0));
-          within = whole-named tag g v₀ R room₀ N len pos (A .u) (l .contents) (A .disk) (A .clean) n m st (A .staged) (A .given) (A .next) j v (A .torn) all;
+          within = whole-named tag g v₀ X (A .u) (l .contents) (A .disk) (A .clean) n m st (A .staged) (A .given) (A .next) j v (A .torn) all;
           progress = rw ec
               (subst (λ (b : List Write). Pass (g .provided) (Home g tag v) (entered (l .contents) b) (batchOf (g .width) st n) 0) (A .batch)
-              (whole-starts tag g v₀ R room₀ N len pos (A .u) (l .contents) (A .disk) (A .clean) n m st (A .staged) (A .given) (A .next) j v (A .torn) all));
+              (whole-starts tag g v₀ X (A .u) (l .contents) (A .disk) (A .clean) n m st (A .staged) (A .given) (A .next) j v (A .torn) all));
         }

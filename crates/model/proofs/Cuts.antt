@@ -1,36 +1,31 @@
 -- Every cut leaves a volume on which the ledger's contents are durable.
-use Prim.Native.Nat.{ℕ, zero, suc, _+_, _-_, _*_, _/_, _%_, _^_, _≤_, _<_}
+use Prim.Native.Nat.{ℕ, _+_, _-_, _*_, _/_, _%_, _^_, _≤_, _<_}
 use mathlib.Core.Bool.{Bool, true, false, not, _&&_}
 use mathlib.Core.Path.{_≡_, refl, sym, ap, _∙_, subst}
-use mathlib.Core.Logic.{_≢_, _⊎_, ⊎-elim}
-use mathlib.Core.List.{List, [], _∷_, _++_}
+use mathlib.Core.Logic.{_≢_, ⊎-elim}
+use mathlib.Core.List.{List}
 use native.Mathlib.Omega.{arith}
-use native.Mathlib.Decide.{decLe, decLt, ℕ-discrete}
+use native.Mathlib.Decide.{decLe, decLt}
 use native.Mathlib.Nat.{mod-lt}
-use lib.ListN.{length, getD}
-use lib.Dec.{leb, ltb, eqb}
-use borrow.Author.Tests.{eqb-true, eqb-false, eq-eqb, ne-eqb, lt-ltb, le-ltb}
+use lib.ListN.{getD}
 use Rattle.octets.specs.Choice.{pick}
-use Rattle.octets.specs.Numbers.{le}
 use Rattle.octets.specs.Parts.{part, same}
-use Rattle.octets.specs.Sectors.{sectorAt, putSector}
-use Rattle.octets.proofs.Parts.{part-part, length-part, same-true, eq-same}
-use Rattle.octets.proofs.Sectors.{sector-part, sector-put-same, sector-put-other, length-put}
-use Rattle.model.specs.Layout.{entryCount, perSector, sectionSize, sectionAt, base, dataAt, tagSector, tagOffset, tagByte, needed}
-use Rattle.model.specs.Section.{Entry, unused, idOf, withId, entryOf, wholeId, greatestIn, allBelow}
-use Rattle.model.specs.Journal.{sealed, sectionOf, greatestId, wholeIds, Replayed, replay}
+use Rattle.octets.specs.Sectors.{sectorAt}
+use Rattle.octets.proofs.Parts.{part-part, same-true, eq-same}
+use Rattle.octets.proofs.Sectors.{sector-part}
+use Rattle.model.specs.Layout.{sectionSize, sectionAt, base, dataAt, tagSector, tagOffset}
+use Rattle.model.specs.Section.{idOf, allBelow}
+use Rattle.model.specs.Journal.{sealed, sectionOf, greatestId, replay}
 use Rattle.model.specs.Tag.{Tag, tagAt}
-use Rattle.model.specs.Store.{Store, homeStore, made, homeCount}
-use Rattle.model.specs.Ledger.{Write, Contents, Ledger, entered}
+use Rattle.model.specs.Ledger.{Contents, Ledger, entered}
 use Rattle.model.specs.World.{Live}
-use Rattle.model.proofs.Replays.{mentions, Clean, Durable, Pass, Which, isTrue, isFalse, which}
-use Rattle.model.proofs.Journals.{top-section, id-sealed, greatest-ge, top-ge, writes, batchOf, top-kept, ids-kept, replay-kept, all-below, below-all}
-use Rattle.model.proofs.Addresses.{Apart, before, behind, Ranged, tag-sector, tag-inside, data-high, tag-high, data-room, tag-room, section-apart, section-low, base-room}
-use Rattle.model.proofs.Plans.{home-two}
-use Rattle.model.proofs.Volumes.{sectors-ext, volume-ext, beyond, getD-sector}
+use Rattle.model.proofs.Replays.{mentions, Clean, Pass, Which, isTrue, isFalse, which}
+use Rattle.model.proofs.Journals.{top-section, id-sealed, top-ge, writes, batchOf, below-all}
+use Rattle.model.proofs.Addresses.{Apart, before, behind, tag-sector, tag-inside, data-high, tag-high, section-apart, section-low}
+use Rattle.model.proofs.Volumes.{sectors-ext, volume-ext, getD-sector}
 use Rattle.model.specs.Guarantees.{Outside}
 use Rattle.model.proofs.Homes.{Home}
-use Rattle.model.proofs.Invariant.{Good, Disk, Staged, slot, Landed, new, old, Torn, AtCommit, Lives, dead, filling, committing, homing, recovering}
+use Rattle.model.proofs.Invariant.{Setting, Disk, Staged, slot, Landed, new, old, Torn, AtCommit, Lives, stopped, filling, committing, writingBack, recovering}
 use Rattle.model.proofs.Commits.{Fails, at, fails, disk-some, disk-all, top-now, batch-named, batch-starts}
 use Rattle.model.specs.declared.Layout.{Layout}
 
@@ -46,24 +41,23 @@ not-true : (t : Bool) → not t ≡ true → t ≡ false
 not-true true e = sym e
 not-true false e = refl
 
-module _ (tag : Tag) (g : Layout) (v₀ : List ℕ) (R : Ranged g) (room₀ : needed g * 512 ≤ length v₀) (N : ℕ) (len : length v₀ ≡ N * 512) where
+module _ (tag : Tag) (g : Layout) (v₀ : List ℕ) (X : Setting tag g v₀) where
   -- a tag lies in one sector
   tag-in : (y : List ℕ) (s : ℕ) → tagAt g y s ≡ part (sectorAt y (tagSector g s)) (tagOffset g s) (g .width)
   tag-in y s =
-      ap (λ (k : ℕ). part y k (g .width)) (sym (tag-sector g R s))
-      ∙ sym (part-part y (tagSector g s * 512) 512 (tagOffset g s) (g .width) (tag-inside g R s))
+      ap (λ (k : ℕ). part y k (g .width)) (sym (tag-sector g (X .ranged) s))
+      ∙ sym (part-part y (tagSector g s * 512) 512 (tagOffset g s) (g .width) (tag-inside g (X .ranged) s))
 
   -- ---- sectors of one section
 
-  module _ (pos : 0 < perSector (g .width))
-      (u : List ℕ) (c : Contents) (D : Disk tag g v₀ u c) (C : Clean (g .provided) (Home g tag u) c)
+  module _ (u : List ℕ) (c : Contents) (D : Disk tag g v₀ u c) (C : Clean (g .provided) (Home g tag u) c)
       (n m : ℕ) (st : List ℕ) (S : Staged tag g v₀ st n) (given : m < 2 ^ 64 - 1) (nxt : m ≡ greatestId g u + 1)
       (j : ℕ) (w : List ℕ) (T : Torn tag g v₀ u st m j w) where
     abbrev k : ℕ
     k = (m - 1) % g .sections
 
     kb : sectionAt g k + sectionSize (g .width) ≤ base g
-    kb = section-low g R k (mod-lt (m - 1) (R .s-low))
+    kb = section-low g (X .ranged) k (mod-lt (m - 1) (X .ranged .s-low))
 
     abbrev landed : ℕ → Bool
     landed i = same (sectorAt w (slot tag g v₀ m + i)) (sealed g st m i)
@@ -72,7 +66,7 @@ module _ (tag : Tag) (g : Layout) (v₀ : List ℕ) (R : Ranged g) (room₀ : ne
     t-outside b o = sym (getD-sector w b) ∙ ap (λ (x : List ℕ). getD x (b % 512) 0) (T .other (b / 512) (λ i h. ⊎-elim (λ q. omega arith) (λ q. omega (arith, kb)) (o .journal))) ∙ getD-sector u b
 
     t-same : (i : ℕ) → i ≢ k → sectionOf g w i ≡ sectionOf g u i
-    t-same i q = sectors-ext w u (sectionAt g i) (sectionSize (g .width)) (λ a l. T .other (sectionAt g i + a) (λ b h. go a b l h (section-apart g R i k q)))
+    t-same i q = sectors-ext w u (sectionAt g i) (sectionSize (g .width)) (λ a l. T .other (sectionAt g i + a) (λ b h. go a b l h (section-apart g (X .ranged) i k q)))
       where
         go : (a b : ℕ) → a < sectionSize (g .width) → b < sectionSize (g .width)
             → Apart (sectionAt g i * 512) (sectionSize (g .width) * 512) (sectionAt g k * 512) (sectionSize (g .width) * 512)
@@ -82,8 +76,8 @@ module _ (tag : Tag) (g : Layout) (v₀ : List ℕ) (R : Ranged g) (room₀ : ne
 
     t-homes : (s : ℕ) (d : List ℕ) → Home g tag u s d → Home g tag w s d
     t-homes s d p = (
-      T .other (dataAt g s) (λ i h. omega (arith, kb, data-high g R s)) ∙ p .0,
-      tag-in w s ∙ ap (λ (x : List ℕ). part x (tagOffset g s) (g .width)) (T .other (tagSector g s) (λ i h. omega (arith, kb, tag-high g R s)))
+      T .other (dataAt g s) (λ i h. omega (arith, kb, data-high g (X .ranged) s)) ∙ p .0,
+      tag-in w s ∙ ap (λ (x : List ℕ). part x (tagOffset g s) (g .width)) (T .other (tagSector g s) (λ i h. omega (arith, kb, tag-high g (X .ranged) s)))
           ∙ sym (tag-in u s) ∙ p .1,
     )
 
@@ -113,11 +107,11 @@ module _ (tag : Tag) (g : Layout) (v₀ : List ℕ) (R : Ranged g) (room₀ : ne
       where
         some : Fails (sectionSize (g .width)) (λ i. not (landed i)) → Disk tag g v₀ w c
         some (at i₁ l₁ e) =
-            disk-some tag g v₀ R pos u c D C n m st S given nxt w landed (T .long) t-outside t-same t-homes t-here
+            disk-some tag g v₀ X u c D C n m st S given nxt w landed (T .long) t-outside t-same t-homes t-here
             i₁ l₁ (not-false (landed i₁) e) i₀ l₀ f₀
 
         none : ((i : ℕ) → i < sectionSize (g .width) → landed i ≡ false) → w ≡ u
-        none z = volume-ext N w u (T .long ∙ D .sized ∙ len) (D .sized ∙ len) (λ a l. one a (decLe (slot tag g v₀ m) a) (decLt a (slot tag g v₀ m + sectionSize (g .width))))
+        none z = volume-ext (X .sectors) w u (T .long ∙ D .sized ∙ (X .whole)) (D .sized ∙ (X .whole)) (λ a l. one a (decLe (slot tag g v₀ m) a) (decLt a (slot tag g v₀ m + sectionSize (g .width))))
           where
             one : (a : ℕ) → Dec (slot tag g v₀ m ≤ a) → Dec (a < slot tag g v₀ m + sectionSize (g .width)) → sectorAt w a ≡ sectorAt u a
             one a (no p) d = T .other a (λ i h. omega arith)
@@ -135,19 +129,19 @@ module _ (tag : Tag) (g : Layout) (v₀ : List ℕ) (R : Ranged g) (room₀ : ne
     -- all landed
     module _ (all : (i : ℕ) → i < sectionSize (g .width) → landed i ≡ true) where
       pub whole-disk : Disk tag g v₀ w (entered c (batchOf (g .width) st n))
-      whole-disk = disk-all tag g v₀ R pos u c D C n m st S given nxt w landed (T .long) t-outside t-same t-homes t-here all
+      whole-disk = disk-all tag g v₀ X u c D C n m st S given nxt w landed (T .long) t-outside t-same t-homes t-here all
 
       pub whole-top : greatestId g w ≡ m
-      whole-top = top-now tag g v₀ R pos u c D C n m st S given nxt w landed (T .long) t-outside t-same t-homes t-here all
+      whole-top = top-now tag g v₀ X u c D C n m st S given nxt w landed (T .long) t-outside t-same t-homes t-here all
 
       pub whole-named : (s : ℕ) → mentions (batchOf (g .width) st n) s ≡ true → mentions (writes (replay g w)) s ≡ true
-      whole-named = batch-named tag g v₀ R pos u c D C n m st S given nxt w landed (T .long) t-outside t-same t-homes t-here all
+      whole-named = batch-named tag g v₀ X u c D C n m st S given nxt w landed (T .long) t-outside t-same t-homes t-here all
 
       pub whole-starts : Pass (g .provided) (Home g tag w) (entered c (batchOf (g .width) st n)) (batchOf (g .width) st n) 0
-      whole-starts = batch-starts tag g v₀ R pos u c D C n m st S given nxt w landed (T .long) t-outside t-same t-homes t-here all
+      whole-starts = batch-starts tag g v₀ X u c D C n m st S given nxt w landed (T .long) t-outside t-same t-homes t-here all
 
   -- a cut while committing
-  module _ (pos : 0 < perSector (g .width)) (v : List ℕ) (l : Ledger) (n m j : ℕ) (st : List ℕ) (p : j < sectionSize (g .width)) (A : AtCommit tag g v₀ v l n m j st) where
+  module _ (v : List ℕ) (l : Ledger) (n m j : ℕ) (st : List ℕ) (p : j < sectionSize (g .width)) (A : AtCommit tag g v₀ v l n m j st) where
     -- ids: what stood there before is older
     old-id : (i : ℕ) → i < sectionSize (g .width) → idOf (sectorAt (A .u) (slot tag g v₀ m + i)) < m
     old-id i h =
@@ -158,7 +152,7 @@ module _ (tag : Tag) (g : Layout) (v₀ : List ℕ) (R : Ranged g) (room₀ : ne
           ap idOf a,
           A .next,
           top-ge (g .width) (sectionOf g (A .u) ((m - 1) % g .sections)) i h,
-          top-section g (A .u) ((m - 1) % g .sections) (mod-lt (m - 1) (R .s-low)),
+          top-section g (A .u) ((m - 1) % g .sections) (mod-lt (m - 1) (X .ranged .s-low)),
         )
 
     new-id : (i : ℕ) → i < sectionSize (g .width) → idOf (sealed g st m i) ≡ m
@@ -175,13 +169,13 @@ module _ (tag : Tag) (g : Layout) (v₀ : List ℕ) (R : Ranged g) (room₀ : ne
             absurd (omega (arith, old-id j p, new-id j p, ap idOf (sym q ∙ same-true (sectorAt v (slot tag g v₀ m + j)) (sealed g st m j) t)))
 
     pub commit-cut : Disk tag g v₀ v (l .contents)
-    commit-cut = torn-disk pos (A .u) (l .contents) (A .disk) (A .clean) n m st (A .staged) (A .given) (A .next) j v (A .torn) j p not-j
+    commit-cut = torn-disk (A .u) (l .contents) (A .disk) (A .clean) n m st (A .staged) (A .given) (A .next) j v (A .torn) j p not-j
 
   -- ---- a cut at any time: the volume is durable
 
-  pub cuts : 0 < perSector (g .width) → (v : List ℕ) (l : Ledger) (x : Live) → Lives tag g v₀ v l x → Disk tag g v₀ v (l .contents)
-  cuts pos v l x (dead D b d) = D
-  cuts pos v l x (filling n m st D A) = D
-  cuts pos v l x (committing n m j st p A) = commit-cut pos v l n m j st p A
-  cuts pos v l x (homing n m i h st D A) = D
-  cuts pos v l x (recovering m k st D A) = D
+  pub cuts : (v : List ℕ) (l : Ledger) (x : Live) → Lives tag g v₀ v l x → Disk tag g v₀ v (l .contents)
+  cuts v l x (stopped D b d) = D
+  cuts v l x (filling n m st D A) = D
+  cuts v l x (committing n m j st p A) = commit-cut v l n m j st p A
+  cuts v l x (writingBack n m i h st D A) = D
+  cuts v l x (recovering m k st D A) = D

@@ -1,34 +1,31 @@
 -- What format leaves, and that it is a formatted volume in the sense of demand 3.
-use Prim.Native.Nat.{ℕ, zero, suc, _+_, _-_, _*_, _/_, _%_, _^_, _≤_, _<_}
-use mathlib.Core.Bool.{Bool, true, false}
+use Prim.Native.Nat.{ℕ, suc, _+_, _-_, _*_, _/_, _%_, _≤_, _<_}
+use mathlib.Core.Bool.{true}
 use mathlib.Core.Path.{_≡_, refl, sym, ap, _∙_, subst}
-use mathlib.Core.List.{List, [], _∷_, _++_}
+use mathlib.Core.List.{List, _++_}
 use native.Mathlib.Omega.{arith}
 use native.Mathlib.Decide.{decLt, ℕ-discrete}
-use native.Mathlib.Nat.{mul-le-mul-right, suc-mul, mod-lt, div-add-mod', mul-comm, mul-assoc}
+use native.Mathlib.Nat.{mul-le-mul-right, suc-mul, mod-lt, div-add-mod', mul-assoc}
 use lib.Pow.{pow-pos}
 use lib.ListN.{length, take, drop, replicate, length-append, length-drop, length-replicate}
-use lib.Seq.{take-at, drop-at, length-take-le, drop-append-add, take-append-le, take-all}
+use lib.Seq.{take-at, length-take-le, drop-append-add}
+use borrow.Author.Tests.{ltb-false}
 use Rattle.octets.specs.Numbers.{le}
 use Rattle.octets.specs.Parts.{part}
 use Rattle.octets.specs.Sectors.{sectorAt}
-use Rattle.octets.proofs.Numbers.{length-le}
-use Rattle.octets.proofs.Parts.{part-part, part-append-left}
-use Rattle.model.specs.Layout.{sectionSize, sectionAt, base, runLength, tagArea, runAt, dataAt, tagPlace, tagByte, needed, layoutOk}
+use Rattle.octets.proofs.Parts.{part-append-left, take-replicate, drop-replicate, part-part}
+use Rattle.model.specs.Layout.{sectionSize, sectionAt, base, runLength, tagArea, dataAt, tagByte, needed, layoutOk}
 use Rattle.model.specs.Section.{collect}
 use Rattle.model.specs.Superblock.{superblockOf, superblockAt}
 use Rattle.model.proofs.Sections.{length-collect, part-collect}
 use Rattle.model.specs.Tag.{Tag, tagAt}
-use Rattle.model.specs.State.{volumeLoanOk}
+use Rattle.model.specs.State.{volumeLoanOk, Verdict, passed}
 use Rattle.octets.specs.Choice.{firstMet, Unmet}
 use Rattle.octets.proofs.Choice.{unmet}
-use borrow.Author.Tests.{ltb-false}
 use Rattle.model.specs.declared.FormatAnswer.the-variants.{Formatted, Refused}
-use Rattle.model.specs.declared.Refusal.{Refusal}
-use Rattle.model.specs.Format.{zeros, freshTags, freshRun, lastRun, lastLength, freshVolume, formatRows, FormatResult, formatBy, formatOf}
-use Rattle.model.specs.State.{Verdict, passed, refused}
+use Rattle.model.specs.Format.{zeros, freshTags, freshRun, lastRun, lastLength, freshVolume, formatRows, formatBy, formatOf}
 use Rattle.model.proofs.Batches.{refused-not, Seen, isPassed, isRefused, seen, not-not}
-use Rattle.model.proofs.Addresses.{Ranged, ranged, tag-in-area, data-room, base-room}
+use Rattle.model.proofs.Addresses.{Ranged, ranged, tag-in-area, base-room}
 use Rattle.model.specs.declared.Layout.{Layout}
 
 -- what format leaves, as the proof of demand 3 uses it
@@ -44,18 +41,8 @@ pub record Fresh (tag : Tag) (g : Layout) (v : List ℕ) : Type 0 where
 part-behind : (a b : List ℕ) (n x m : ℕ) → length a ≡ n → part (a ++ b) (n + x) m ≡ part b x m
 part-behind a b n x m e = ap (take m) (subst (λ (k : ℕ). drop (k + x) (a ++ b) ≡ drop x b) e (drop-append-add a b x))
 
-drop-zeros : (n x : ℕ) → drop x (zeros n) ≡ zeros (n - x)
-drop-zeros n zero = ap (λ (k : ℕ). zeros k) {x = n} {y = n - 0} (omega arith)
-drop-zeros zero (suc x) = ap (λ (k : ℕ). zeros k) {x = 0} {y = 0 - suc x} (omega arith)
-drop-zeros (suc n) (suc x) = drop-zeros n x ∙ ap (λ (k : ℕ). zeros k) {x = n - x} {y = suc n - suc x} (omega arith)
-
-take-zeros : (n m : ℕ) → m ≤ n → take m (zeros n) ≡ zeros m
-take-zeros n zero h = refl
-take-zeros zero (suc m) h = absurd (omega arith)
-take-zeros (suc n) (suc m) h = ap (λ (l : List ℕ). 0 ∷ l) (take-zeros n m (omega arith))
-
 part-zeros : (n x m : ℕ) → x + m ≤ n → part (zeros n) x m ≡ zeros m
-part-zeros n x m h = ap (take m) (drop-zeros n x) ∙ take-zeros (n - x) m (omega arith)
+part-zeros n x m h = ap (take m) (drop-replicate x n 0 (omega arith)) ∙ take-replicate m (n - x) 0 (omega arith)
 
 super-length : (g : Layout) → length (superblockOf g) ≡ 4096
 unfolding superblockOf

@@ -1,21 +1,21 @@
 -- What each kind of store leaves: homes, the journal, and what lies before it.
-use Prim.Native.Nat.{ℕ, zero, suc, _+_, _-_, _*_, _/_, _%_, _^_, _≤_, _<_}
-use mathlib.Core.Path.{_≡_, refl, sym, ap, _∙_, subst}
+use Prim.Native.Nat.{ℕ, zero, suc, _+_, _*_, _≤_, _<_}
+use mathlib.Core.Path.{_≡_, sym, ap, _∙_}
 use mathlib.Core.Logic.{_≢_}
-use mathlib.Core.List.{List, [], _∷_, _++_}
+use mathlib.Core.List.{List}
 use native.Mathlib.Omega.{arith}
 use lib.ListN.{length, getD}
 use Rattle.model.specs.Guarantees.{Outside}
 use Rattle.model.proofs.Volumes.{getD-patch}
 use Rattle.octets.specs.Parts.{part, patch}
 use Rattle.octets.specs.Sectors.{sectorAt, putSector}
-use Rattle.octets.proofs.Parts.{length-patch, part-patch-same, part-patch-before, part-patch-after, length-part}
-use Rattle.octets.proofs.Sectors.{put-inside, sector-part, sector-put-same, sector-put-other, length-put}
+use Rattle.octets.proofs.Parts.{length-patch, part-patch-same, part-patch-before, part-patch-after}
+use Rattle.octets.proofs.Sectors.{put-inside, sector-part, sector-put-same, sector-put-other}
 use Rattle.model.specs.Layout.{sectionSize, sectionAt, base, dataAt, tagSector, tagOffset, tagByte, needed}
 use Rattle.model.specs.Section.{Entry}
 use Rattle.model.specs.Journal.{sectionOf}
 use Rattle.model.specs.Tag.{Tag, tagAt}
-use Rattle.model.specs.Store.{Store, homeStore, made}
+use Rattle.model.specs.Store.{homeStore, made}
 use Rattle.model.proofs.Replays.{Holds, Frame}
 use Rattle.model.proofs.Addresses.{Apart, before, behind, part-apart, Ranged, data-tag, data-data, tag-tag, tag-sector, tag-inside, data-high, tag-high, data-room, tag-room, section-apart, section-low, base-room}
 use Rattle.model.specs.declared.Layout.{Layout}

@@ -1,20 +1,19 @@
 -- The invariant of demand 3: what holds of the volume at every cut (Disk), and of state and staging while the supply holds (Lives).
-use Prim.Native.Nat.{ℕ, zero, suc, _+_, _-_, _*_, _/_, _%_, _^_, _≤_, _<_}
-use mathlib.Core.Bool.{Bool, true, false, not, _&&_}
-use mathlib.Core.Path.{_≡_, refl, sym, ap, _∙_, subst}
+use Prim.Native.Nat.{ℕ, zero, suc, _+_, _-_, _*_, _%_, _^_, _≤_, _<_}
+use mathlib.Core.Bool.{true}
+use mathlib.Core.Path.{_≡_, sym, ap, _∙_, subst}
 use mathlib.Core.Logic.{_≢_, inl}
-use mathlib.Core.List.{List, [], _∷_, _++_}
+use mathlib.Core.List.{List, []}
 use native.Mathlib.Omega.{arith}
 use lib.ListN.{length, getD}
-use lib.Dec.{leb, ltb, eqb}
-use Rattle.octets.specs.Choice.{pick}
 use Rattle.octets.specs.Parts.{part}
-use Rattle.octets.specs.Sectors.{sectorAt, putSector}
-use Rattle.model.specs.Layout.{entryCount, sectionSize, sectionAt, base, dataAt, needed}
-use Rattle.model.specs.Section.{Entry, unused, idOf, withId, entryOf, greatestIn}
-use Rattle.model.specs.Journal.{sealed, sectionOf, greatestId, wholeIds, Replayed, usedOf, replay}
+use Rattle.octets.specs.Sectors.{sectorAt}
+use Rattle.model.specs.Superblock.{superblockOf, superblockAt}
+use Rattle.model.specs.Layout.{perSector, layoutOk, entryCount, sectionSize, sectionAt, dataAt, needed}
+use Rattle.model.specs.Section.{Entry, unused, entryOf}
+use Rattle.model.specs.Journal.{sealed, sectionOf, greatestId, wholeIds, usedOf, replay}
 use Rattle.model.specs.Tag.{Tag}
-use Rattle.model.specs.Store.{Store, homeStore, made, homeCount}
+use Rattle.model.specs.Store.{homeStore, made, homeCount}
 use Rattle.model.specs.State.{volumeLoanOk}
 use Rattle.model.proofs.Plans.{At, home-some, home-two}
 use Rattle.model.specs.Ledger.{Write, Contents, Ledger}
@@ -32,6 +31,20 @@ use Rattle.model.specs.declared.State.{State}
 
 abbrev pub stateAt : Layout → ℕ → ℕ → Phase → State
 stateAt g n m p = record { layout = g; phase = p; count = n; id = m }
+
+-- what holds of the layout, the tag function and the volume at the start
+pub record Setting (tag : Tag) (g : Layout) (v₀ : List ℕ) : Type 0 where
+  pub layout : layoutOk g ≡ true
+  pub ranged : Ranged g
+  -- a metadata sector has room for an entry
+  pub some : 0 < perSector (g .width)
+  pub tags : (s : ℕ) (b : List ℕ) → length (tag s b) ≡ g .width
+  pub loan : volumeLoanOk v₀ ≡ true
+  pub room : needed g * 512 ≤ length v₀
+  pub super : superblockAt (g .reserved) v₀ ≡ superblockOf g
+  -- the sectors of the volume
+  pub sectors : ℕ
+  pub whole : length v₀ ≡ sectors * 512
 
 pub record Good (tag : Tag) (g : Layout) (e : Entry) : Type 0 where
   pub low : e .sector < g .provided
@@ -123,10 +136,10 @@ module _ (tag : Tag) (g : Layout) (v₀ : List ℕ) where
     pub progress : Progress v (l .contents) (writes (replay g v)) i h
 
   pub data Lives (v : List ℕ) (l : Ledger) : Live → Type 0 where
-    dead : Disk v (l .contents) → l .batch ≡ [] → l .due ≡ 0 → Lives v l off
+    stopped : Disk v (l .contents) → l .batch ≡ [] → l .due ≡ 0 → Lives v l off
     filling : (n m : ℕ) (st : List ℕ) → Disk v (l .contents) → AtFilling v l n m st → Lives v l (on (stateAt g n m Filling) st)
     committing : (n m j : ℕ) (st : List ℕ) → j < sectionSize (g .width) → AtCommit v l n m j st → Lives v l (on (stateAt g n m (Committing j)) st)
-    homing : (n m i h : ℕ) (st : List ℕ) → Disk v (l .contents) → AtHome v l n m i h st → Lives v l (on (stateAt g n m (WritingBack i h)) st)
+    writingBack : (n m i h : ℕ) (st : List ℕ) → Disk v (l .contents) → AtHome v l n m i h st → Lives v l (on (stateAt g n m (WritingBack i h)) st)
     recovering : (m k : ℕ) (st : List ℕ) → Disk v (l .contents) → AtRecover v l m k st → Lives v l (on (stateAt g 0 m (Recovering k)) st)
 
 -- what lies before the journal is kept
@@ -147,22 +160,21 @@ replay-goods tag g v₀ v c D = every-replay g v (λ x. Good tag g (x .entry)) (
 
 -- ---- a store that brings an entry home
 
-module _ (tag : Tag) (g : Layout) (v₀ : List ℕ) (R : Ranged g) (sz : (s : ℕ) (b : List ℕ) → length (tag s b) ≡ g .width)
-    (room₀ : needed g * 512 ≤ length v₀) (v : List ℕ) (c : Contents) (D : Disk tag g v₀ v c) (e : Entry) (G : Good tag g e) where
+module _ (tag : Tag) (g : Layout) (v₀ : List ℕ) (X : Setting tag g v₀) (v : List ℕ) (c : Contents) (D : Disk tag g v₀ v c) (e : Entry) (G : Good tag g e) where
   abbrev w : ℕ → List ℕ
   w h = made v (homeStore g v e h)
 
   room : needed g * 512 ≤ length v
-  room = rw (D .sized) room₀
+  room = rw (D .sized) (X .room)
 
   tagged : length (e .tag) ≡ g .width
-  tagged = rw (G .fit) (sz (e .sector) (e .bytes))
+  tagged = rw (G .fit) ((X .tags) (e .sector) (e .bytes))
 
   two : {h : ℕ} → h < homeCount g e → h < 2
   two l = omega (arith, home-two g e)
 
   pub secs : (h : ℕ) → h < homeCount g e → (k : ℕ) → k < g .sections → sectionOf g (w h) k ≡ sectionOf g v k
-  secs h l = home-sections g R tag v room e (G .low) (G .whole) tagged h (two l)
+  secs h l = home-sections g (X .ranged) tag v room e (G .low) (G .whole) tagged h (two l)
 
   pub replays : (h : ℕ) → h < homeCount g e → replay g (w h) ≡ replay g v
   replays h l = replay-kept g (w h) v (secs h l)
@@ -173,34 +185,34 @@ module _ (tag : Tag) (g : Layout) (v₀ : List ℕ) (R : Ranged g) (sz : (s : �
   pub disk-home : (h : ℕ) → h < homeCount g e → mentions (writes (replay g v)) (e .sector) ≡ true → Disk tag g v₀ (w h) c
   disk-home h l m =
       record {
-        sized = home-length g R tag v room e (G .low) (G .whole) tagged h (two l) ∙ D .sized;
-        kept = λ b o. home-outside g R tag v room e (G .low) (G .whole) tagged h (two l) b o ∙ D .kept b o;
+        sized = home-length g (X .ranged) tag v room e (G .low) (G .whole) tagged h (two l) ∙ D .sized;
+        kept = λ b o. home-outside g (X .ranged) tag v room e (G .low) (G .whole) tagged h (two l) b o ∙ D .kept b o;
         places = λ k q. rw (ids-kept g (w h) v (secs h l) k q) (D .places k q);
         window = λ k q. rw (ids-kept g (w h) v (secs h l) k q, tops h l) (D .window k q);
         top = rw (tops h l) (D .top);
         goods = λ k q. rw (secs h l k q) (D .goods k q);
-        durable = rw (replays h l) (touch (g .provided) (e .sector) (home-frame g R tag v room e (G .low) (G .whole) tagged h (two l)) m (D .durable));
+        durable = rw (replays h l) (touch (g .provided) (e .sector) (home-frame g (X .ranged) tag v room e (G .low) (G .whole) tagged h (two l)) m (D .durable));
       }
 
   frame-at : (L : List Write) (i : ℕ) → getD L i noWrite ≡ writeOfEntry e → (h : ℕ) → h < homeCount g e
       → Frame (Home g tag v) (Home g tag (w h)) (getD L i noWrite .sector)
   frame-at L i q h l =
       subst (λ (n : ℕ). Frame (Home g tag v) (Home g tag (w h)) n) (sym (ap (λ (x : Write). x .sector) q))
-      (home-frame g R tag v room e (G .low) (G .whole) tagged h (two l))
+      (home-frame g (X .ranged) tag v room e (G .low) (G .whole) tagged h (two l))
 
   -- the next store of the pass
   pub half-way : (L : List Write) (i : ℕ) → i < length L → getD L i noWrite ≡ writeOfEntry e
       → Progress tag g v₀ v c L i 0 → Progress tag g v₀ (w 0) c L i 1
   half-way L i l q p = (
     mid-touch (g .provided) (frame-at L i q 0 (omega (arith, home-two g e))) (pass-begins (g .provided) l p),
-    rw q (home-data g R tag v room e (G .low) (G .whole) tagged),
+    rw q (home-data g (X .ranged) tag v room e (G .low) (G .whole) tagged),
   )
 
   pub all-way : (L : List Write) (i : ℕ) → getD L i noWrite ≡ writeOfEntry e
       → Progress tag g v₀ v c L i 1 → Progress tag g v₀ (w 1) c L (suc i) 0
   all-way L i q p =
       mid-ends (g .provided) (frame-at L i q 1 (omega (arith, home-two g e)))
-      (rw q (home-done g R tag v room e (G .low) (G .whole) tagged (G .fit) (rw q at (p .1)))) (p .0)
+      (rw q (home-done g (X .ranged) tag v room e (G .low) (G .whole) tagged (G .fit) (rw q at (p .1)))) (p .0)
 
   -- one store further: of the same entry, or the entry is home
   pub data Advance (L : List Write) (i h : ℕ) : Type 0 where

@@ -1,19 +1,18 @@
 -- What a volume's journal says, when one sector of it or none is stored.
-use Prim.Native.Nat.{ℕ, zero, suc, _+_, _-_, _*_, _/_, _%_, _^_, _≤_, _<_, max}
-use mathlib.Core.Bool.{Bool, true, false, not, _&&_}
+use Prim.Native.Nat.{ℕ, zero, suc, _*_, _^_, _≤_, _<_, max}
+use mathlib.Core.Bool.{Bool, true, false}
 use mathlib.Core.Path.{_≡_, refl, sym, ap, _∙_, subst}
-use mathlib.Core.Logic.{_≢_, _⊎_, inl, inr}
+use mathlib.Core.Logic.{_≢_}
 use mathlib.Core.List.{List, [], _∷_, _++_, append-assoc, append-nil}
 use native.Mathlib.Omega.{arith}
 use native.Mathlib.Decide.{decLe, decLt, ℕ-discrete}
-use lib.ListN.{length, take, drop, getD}
-use lib.Dec.{leb, ltb, eqb}
-use borrow.Author.Tests.{eqb-true, eqb-false, eq-eqb, ne-eqb, lt-ltb, le-ltb}
+use lib.ListN.{length, getD}
+use lib.Dec.{ltb, eqb}
+use borrow.Author.Tests.{eqb-true, eqb-false, eq-eqb, ne-eqb}
 use Rattle.octets.specs.Choice.{pick}
 use Rattle.octets.proofs.Parts.{length-part}
-use Rattle.octets.specs.Parts.{part, patch}
-use Rattle.octets.specs.Sectors.{sectorAt, putSector}
-use Rattle.model.specs.Layout.{perSector, entryCount, sectionSize, sectionAt}
+use Rattle.octets.specs.Sectors.{sectorAt}
+use Rattle.model.specs.Layout.{perSector, entryCount, sectionSize}
 use Rattle.model.specs.Section.{Entry, unused, idOf, entryOf, allBelow, wholeId, greatest, greatestIn, collect}
 use Rattle.model.specs.Journal.{sealed, sectionOf, greatestId, dueIds, Found, insert, ordered, wholeIds, Replayed, usedEntry, usedOf, replayIn, replay}
 use Rattle.model.specs.Ledger.{Write}

@@ -1,58 +1,43 @@
 -- An open keeps the invariant: of a volume that only our steps stored to, only a wrong staging loan is refused.
-use Prim.Native.Nat.{ℕ, zero, suc, _+_, _-_, _*_, _/_, _%_, _^_, _≤_, _<_}
-use mathlib.Core.Bool.{Bool, true, false, not, _&&_}
-use mathlib.Core.Path.{_≡_, refl, sym, ap, _∙_, subst, subst₂}
+use Prim.Native.Nat.{ℕ, _+_, _-_, _*_, _%_, _^_, _≤_, _<_}
+use mathlib.Core.Bool.{true, false, not, _&&_}
+use mathlib.Core.Path.{_≡_, refl, sym, ap, _∙_, subst}
 use mathlib.Core.Logic.{_≢_}
-use mathlib.Core.List.{List, [], _∷_, _++_}
+use mathlib.Core.List.{List, [], _∷_}
 use native.Mathlib.Omega.{arith}
-use native.Mathlib.Decide.{decLe, decLt, ℕ-discrete}
-use lib.ListN.{length, getD, replicate}
-use lib.Dec.{leb, ltb, eqb}
-use borrow.Author.Tests.{eqb-true, eqb-false, eq-eqb, ne-eqb, lt-ltb, le-ltb, le-leb, lt-leb}
-use Rattle.octets.specs.Choice.{pick, firstMet, Unmet}
+use native.Mathlib.Decide.{ℕ-discrete}
+use lib.ListN.{length}
+use lib.Dec.{ltb, eqb}
+use borrow.Author.Tests.{eq-eqb, ne-eqb, le-ltb, lt-leb}
 use Rattle.octets.proofs.Choice.{passes}
-use Rattle.octets.specs.Numbers.{le, value}
-use Rattle.octets.specs.Parts.{part, same}
+use Rattle.octets.specs.Parts.{same}
 use Rattle.octets.proofs.Numbers.{value-le}
-use Rattle.octets.proofs.Parts.{part-part}
-use Rattle.model.specs.Layout.{entryCount, perSector, sectionSize, sectionAt, needed, layoutOk}
+use Rattle.octets.proofs.Parts.{eq-same}
+use Rattle.model.specs.Layout.{sectionSize, needed, layoutOk}
 use Rattle.model.specs.Section.{allBelow, emptySection}
 use Rattle.model.specs.Journal.{greatestId, wholeIds, Replayed, replay}
-use Rattle.model.specs.Superblock.{superblockOf, layoutIn, superblockAt, superblockOk}
+use Rattle.model.specs.Superblock.{superblockOf, layoutIn, superblockAt, superblockOk, isZero}
 use Rattle.model.specs.Store.{homeCount, storesOf}
 use Rattle.model.specs.Tag.{Tag}
-use Rattle.model.specs.State.{Verdict, passed, refused, lastId, volumeLoanOk, stagingOk}
-use Rattle.model.specs.Superblock.{isZero}
-use Rattle.model.specs.Open.{misplaced, openRows, entriesVerdict, phaseFor, openedState, OpenResult, openBy, openWith, openOf}
+use Rattle.model.specs.State.{passed, volumeLoanOk, stagingOk}
+use Rattle.model.specs.Open.{misplaced, openRows, entriesVerdict, OpenResult, openBy, openWith, openOf}
 use Rattle.model.specs.declared.Refusal.the-variants.{Malformed}
-use Rattle.model.specs.declared.OpenAnswer.the-variants.{Opened, Refused}
-use Rattle.model.specs.Ledger.{Write, Contents, Ledger}
-use Rattle.model.specs.World.{Live, off, on, World}
-use Rattle.model.specs.Ledger.{opened as openedNote, note}
+use Rattle.model.specs.declared.OpenAnswer.the-variants.{Refused}
+use Rattle.model.specs.Ledger.{Ledger, opened as openedNote, note}
 use Rattle.model.specs.World.{openTaken, openWorld}
 use Rattle.model.proofs.Replays.{Which, isTrue, isFalse, which, pass-replays}
-use Rattle.model.proofs.Journals.{Every, writes, batchOf, all-below}
-use Rattle.octets.proofs.Parts.{eq-same}
-use Rattle.model.proofs.Addresses.{Ranged, Sizes, eight, sixteen, thirty-two, base-room}
-use Rattle.model.proofs.Homes.{Home}
-use Rattle.model.proofs.Plans.{At, here, there, at-in, home-two}
-use Rattle.model.proofs.Invariant.{low-kept, replay-goods, stateAt, Good, Disk, AtFilling, AtRecover, Lives, dead, filling, recovering}
-use Rattle.model.proofs.Steps.{Inv, never, FillsLive, staged-empty}
+use Rattle.model.proofs.Journals.{Every, writes, all-below}
+use Rattle.model.proofs.Addresses.{size-bound, Ranged, base-room}
+use Rattle.model.proofs.Plans.{At, here, at-in, home-two}
+use Rattle.model.proofs.Invariant.{Setting, low-kept, replay-goods, Good, Disk, stopped, filling, recovering}
+use Rattle.model.proofs.Steps.{Inv, never, staged-empty}
 use Rattle.model.specs.declared.Layout.{Layout}
-use Rattle.model.specs.declared.Phase.{Phase}
-use Rattle.model.specs.declared.Phase.the-variants.{Filling, Committing, WritingBack, Recovering}
-use Rattle.model.specs.declared.State.{State}
 
 -- ---- the superblockAt is read back
 
 module _ (g : Layout) (R : Ranged g) where
   small : g .width < 256 ^ 2
-  small = go (R .t)
-    where
-      go : Sizes (g .width) → g .width < 256 ^ 2
-      go (eight e) = rw e (omega arith)
-      go (sixteen e) = rw e (omega arith)
-      go (thirty-two e) = rw e (omega arith)
+  small = omega (arith, size-bound (R .t))
 
   pub super-decoded : layoutIn (g .reserved) (superblockOf g) ≡ g
   unfolding superblockOf
@@ -79,24 +64,22 @@ entries-pass tag g (x ∷ xs) q =
     let t : same (x .entry .tag) (tag (x .entry .sector) (x .entry .bytes)) ≡ true = eq-same (x .entry .tag) (tag (x .entry .sector) (x .entry .bytes)) (q .0 .fit) in
     rw (lt-leb (g .provided) (x .entry .sector) (q .0 .low), t) (entries-pass tag g xs (q .1))
 
-module _ (tag : Tag) (g : Layout) (v₀ : List ℕ) (R : Ranged g) (ok : layoutOk g ≡ true) (pos : 0 < perSector (g .width))
-    (sz : (s : ℕ) (b : List ℕ) → length (tag s b) ≡ g .width) (room₀ : needed g * 512 ≤ length v₀) (wholes₀ : volumeLoanOk v₀ ≡ true)
-    (super₀ : superblockAt (g .reserved) v₀ ≡ superblockOf g) (N : ℕ) (len : length v₀ ≡ N * 512)
+module _ (tag : Tag) (g : Layout) (v₀ : List ℕ) (X : Setting tag g v₀)
     (v : List ℕ) (l : Ledger) (D : Disk tag g v₀ v (l .contents)) where
   abbrev r : ℕ
   r = g .reserved
 
   super-at : superblockAt (g .reserved) v ≡ superblockOf g
-  super-at = low-kept tag g v₀ R v (l .contents) D (g .reserved * 512) 4096 (omega arith) ∙ super₀
+  super-at = low-kept tag g v₀ (X .ranged) v (l .contents) D (g .reserved * 512) 4096 (omega arith) ∙ (X .super)
 
   decoded : layoutIn (g .reserved) (superblockAt (g .reserved) v) ≡ g
-  decoded = ap (layoutIn (g .reserved)) super-at ∙ super-decoded g R
+  decoded = ap (layoutIn (g .reserved)) super-at ∙ super-decoded g (X .ranged)
 
   long : needed g * 512 ≤ length v
-  long = rw (D .sized) room₀
+  long = rw (D .sized) (X .room)
 
   wholes : volumeLoanOk v ≡ true
-  wholes = rw (D .sized) wholes₀
+  wholes = rw (D .sized) (X .loan)
 
   in-place : allBelow (g .sections) (λ k. not (misplaced g v k)) ≡ true
   in-place = all-below (g .sections) (λ k. not (misplaced g v k)) (λ k h. go k h (ℕ-discrete (wholeIds g v k) 0))
@@ -106,16 +89,16 @@ module _ (tag : Tag) (g : Layout) (v₀ : List ℕ) (R : Ranged g) (ok : layoutO
       go k h (no z) = rw (ne-eqb (wholeIds g v k) 0 z, eq-eqb ((wholeIds g v k - 1) % g .sections) k (D .places k h z))
 
   zero-at : isZero (superblockAt (g .reserved) v) ≡ false
-  zero-at = ap isZero super-at ∙ super-not-zero g R
+  zero-at = ap isZero super-at ∙ super-not-zero g (X .ranged)
 
   valid-at : superblockOk (g .reserved) (superblockAt (g .reserved) v) ≡ true
-  valid-at = ap (superblockOk (g .reserved)) super-at ∙ super-valid g R ok
+  valid-at = ap (superblockOk (g .reserved)) super-at ∙ super-valid g (X .ranged) (X .layout)
 
   low₁ : ltb 64 (g .reserved) ≡ false
-  low₁ = le-ltb 64 (g .reserved) (R .r)
+  low₁ = le-ltb 64 (g .reserved) (X .ranged .r)
 
   low₂ : ltb (length v) ((g .reserved + 8) * 512) ≡ false
-  low₂ = le-ltb (length v) ((g .reserved + 8) * 512) (omega (arith, long, base-room g R))
+  low₂ = le-ltb (length v) ((g .reserved + 8) * 512) (omega (arith, long, base-room g (X .ranged)))
 
   low₃ : ltb (length v) (needed g * 512) ≡ false
   low₃ = le-ltb (length v) (needed g * 512) long
@@ -143,7 +126,7 @@ module _ (tag : Tag) (g : Layout) (v₀ : List ℕ) (R : Ranged g) (ok : layoutO
 
   -- what an open leads to
   abbrev OpenLeads : OpenResult → Type 0
-  OpenLeads o = Inv tag g v₀ R ok pos sz room₀ wholes₀ N len (openWorld v o) (note (sectionSize (g .width)) l (openedNote (openTaken (o .answer))))
+  OpenLeads o = Inv tag g v₀ X (openWorld v o) (note (sectionSize (g .width)) l (openedNote (openTaken (o .answer))))
 
   start-at : (x : Replayed) (xs : List Replayed) → At g (x ∷ xs) 0 0 0
   start-at x xs =
@@ -166,20 +149,20 @@ module _ (tag : Tag) (g : Layout) (v₀ : List ℕ) (R : Ranged g) (ok : layoutO
           (record {
             lives = filling 0 (greatestId g v + 1) (emptySection (g .width)) D
                 (record {
-                  staged = staged-empty tag g v₀ R ok pos sz room₀ wholes₀ N len;
+                  staged = staged-empty tag g v₀ X;
                   batch = sym b;
                   due = d;
                   next = refl;
-                  clean = λ s h. D .durable .quiet s h (rw (empty-writes (replay g v) z));
+                  clean = λ s h. D .durable .unnamed s h (rw (empty-writes (replay g v) z));
                 });
-            quietly = λ q. tt;
+            fills = λ q. tt;
           })
       go (no z) =
           rw (ne-eqb (storesOf g (replay g v)) 0 z)
           (record {
             lives = recovering (greatestId g v + 1) 0 (emptySection (g .width)) D
                 (record {
-                  staged = staged-empty tag g v₀ R ok pos sz room₀ wholes₀ N len;
+                  staged = staged-empty tag g v₀ X;
                   empty = b;
                   due = d;
                   next = refl;
@@ -188,7 +171,7 @@ module _ (tag : Tag) (g : Layout) (v₀ : List ℕ) (R : Ranged g) (ok : layoutO
                   spot = starts-at (replay g v) z;
                   progress = pass-replays (g .provided) (D .durable);
                 });
-            quietly = λ q. never q;
+            fills = λ q. never q;
           })
 
   pub open-keeps : (st : List ℕ) → l .batch ≡ [] → l .due ≡ 0 → OpenLeads (openOf tag (g .reserved) v st)
@@ -196,4 +179,4 @@ module _ (tag : Tag) (g : Layout) (v₀ : List ℕ) (R : Ranged g) (ok : layoutO
     where
       go : Which (stagingOk g st) → OpenLeads (openOf tag (g .reserved) v st)
       go (isTrue t) = rw (open-runs st t) (opened b d st)
-      go (isFalse f) = rw (open-refused st f) (record { lives = dead D b d; quietly = λ q. never q })
+      go (isFalse f) = rw (open-refused st f) (record { lives = stopped D b d; fills = λ q. never q })

@@ -1,25 +1,22 @@
 -- A batch that is written to a section is read back as that batch.
-use Prim.Native.Nat.{ℕ, zero, suc, _+_, _-_, _*_, _^_, _≤_, _<_}
-use mathlib.Core.Path.{_≡_, refl, sym, ap, _∙_, subst}
+use Prim.Native.Nat.{ℕ, zero, suc, _+_, _*_, _^_, _≤_, _<_}
+use mathlib.Core.Path.{_≡_, refl, sym, ap, _∙_}
 use mathlib.Core.Logic.{_≢_}
 use mathlib.Core.List.{List, [], _∷_, _++_, append-nil}
-use native.Mathlib.Nat.{add-zero, add-suc}
-use native.Mathlib.Numerals.{add-one}
-use native.Mathlib.Decide.{decLt, ℕ-discrete}
+use native.Mathlib.Nat.{add-zero}
+use native.Mathlib.Decide.{decLt}
 use native.Mathlib.Omega.{arith}
-use lib.ListN.{length, getD, take, length-take}
+use lib.ListN.{length, getD, take}
 use lib.Seq.{take-suc, take-all, length-take-le}
-use lib.Dec.{eqb}
 use borrow.Author.Tests.{eq-eqb, ne-eqb}
-use Rattle.octets.specs.Choice.{pick}
 use Rattle.octets.specs.Sectors.{sectorAt}
 use Rattle.model.specs.declared.Layout.{Layout}
 use Rattle.model.specs.Layout.{perSector, entryCount, sectionSize}
 use Rattle.model.specs.Section.{Entry, unused, idOf, entryOf, putEntry, wholeId, collect, emptySection}
-use Rattle.model.specs.Journal.{sealed, Replayed, usedEntry, usedOf}
+use Rattle.model.specs.Journal.{sealed, usedEntry, usedOf}
 use Rattle.model.specs.ReadBack.{Sized, AllSized, putBatch, sealedSection, numbered, ReadBack}
-use Rattle.model.proofs.Addresses.{Ranged, ranged, Sizes, eight, sixteen, thirty-two}
-use Rattle.model.proofs.Sections.{per-pos, length-putEntry, entryOf-put-same, entryOf-put-other, length-collect, part-collect, length-empty, empty-unused}
+use Rattle.model.proofs.Addresses.{size-bound, ranged}
+use Rattle.model.proofs.Sections.{per-pos, length-putEntry, entryOf-put-same, entryOf-put-other, part-collect, length-empty, empty-unused}
 use Rattle.model.proofs.Journals.{whole-all, length-sealed, id-sealed, entry-sealed}
 
 -- what stands past the end of a batch
@@ -143,9 +140,4 @@ module _ (g : Layout) (pos : 0 < perSector (g .width)) (es : List Entry) (l : le
   read k = (whole, used k)
 
 pub read-back : ReadBack
-read-back g ok es l q k n z n64 = read g (per-pos (g .width) (go (ranged g ok .t))) es l q n n64 k
-  where
-    go : Sizes (g .width) → g .width ≤ 480
-    go (eight e) = omega arith
-    go (sixteen e) = omega arith
-    go (thirty-two e) = omega arith
+read-back g ok es l q k n z n64 = read g (per-pos (g .width) (omega (arith, size-bound (ranged g ok .t)))) es l q n n64 k

@@ -1,14 +1,14 @@
 -- Replaying lists of writes over homes, with no bytes of a volume in sight. `H s d` says that sector s holds d at home, with a fitting tag.
-use Prim.Native.Nat.{ℕ, zero, suc, _+_, _-_, _≤_, _<_}
-use mathlib.Core.Bool.{Bool, true, false, not, _&&_, _||_}
+use Prim.Native.Nat.{ℕ, zero, suc, _≤_, _<_}
+use mathlib.Core.Bool.{Bool, true, false, _||_}
 use mathlib.Core.Path.{_≡_, refl, sym, ap, _∙_, subst}
 use mathlib.Core.Logic.{_≢_}
 use mathlib.Core.List.{List, [], _∷_, _++_}
 use native.Mathlib.Omega.{arith}
-use lib.ListN.{length, take, drop, getD}
+use lib.ListN.{length, take, getD}
 use lib.Seq.{take-suc, take-all}
-use lib.Dec.{leb, ltb, eqb}
-use borrow.Author.Tests.{eqb-true, eqb-false, eq-eqb, ne-eqb}
+use lib.Dec.{eqb}
+use borrow.Author.Tests.{eqb-true, eqb-false, eq-eqb}
 use Rattle.octets.specs.Choice.{pick}
 use Rattle.model.specs.Ledger.{Write, Contents, lastFor, entered}
 
@@ -33,16 +33,16 @@ pub or-false : (a b : Bool) → _||_ a b ≡ false → (a ≡ false) × (b ≡ f
 or-false true b e = absurd (let z : _≡_ {A = ℕ} 0 1 = cc in omega arith)
 or-false false b e = (refl, e)
 
-pub lastFor-quiet : (a : List Write) (s : ℕ) (d : List ℕ) → mentions a s ≡ false → lastFor a s d ≡ d
-lastFor-quiet [] s d e = refl
-lastFor-quiet (w ∷ a) s d e =
+pub lastFor-unnamed : (a : List Write) (s : ℕ) (d : List ℕ) → mentions a s ≡ false → lastFor a s d ≡ d
+lastFor-unnamed [] s d e = refl
+lastFor-unnamed (w ∷ a) s d e =
     let k : eqb (w .sector) s ≡ false = or-false (eqb (w .sector) s) (mentions a s) e .0 in
-    rw k (lastFor-quiet a s d (or-false (eqb (w .sector) s) (mentions a s) e .1))
+    rw k (lastFor-unnamed a s d (or-false (eqb (w .sector) s) (mentions a s) e .1))
 
 -- a sector that is mentioned: what was there before does not matter
-pub lastFor-loud : (a : List Write) (s : ℕ) (d d′ : List ℕ) → mentions a s ≡ true → lastFor a s d ≡ lastFor a s d′
-lastFor-loud [] s d d′ e = absurd (let z : _≡_ {A = ℕ} 0 1 = cc in omega arith)
-lastFor-loud (w ∷ a) s d d′ e = go (lastFor-loud a s d d′) (eqb (w .sector) s) e
+pub lastFor-named : (a : List Write) (s : ℕ) (d d′ : List ℕ) → mentions a s ≡ true → lastFor a s d ≡ lastFor a s d′
+lastFor-named [] s d d′ e = absurd (let z : _≡_ {A = ℕ} 0 1 = cc in omega arith)
+lastFor-named (w ∷ a) s d d′ e = go (lastFor-named a s d d′) (eqb (w .sector) s) e
   where
     go : (mentions a s ≡ true → lastFor a s d ≡ lastFor a s d′)
         → (t : Bool) → _||_ t (mentions a s) ≡ true → lastFor a s (pick t (w .bytes) d) ≡ lastFor a s (pick t (w .bytes) d′)
@@ -87,16 +87,16 @@ module _ (P : ℕ) where
 
   -- what a cut at any time leaves true: replaying J over the homes gives the contents
   pub record Durable (H : Holds) (J : List Write) (c : Contents) : Type 0 where
-    pub quiet : (s : ℕ) → s < P → mentions J s ≡ false → H s (c s)
-    pub loud : (s : ℕ) → s < P → mentions J s ≡ true → (d : List ℕ) → lastFor J s d ≡ c s
+    pub unnamed : (s : ℕ) → s < P → mentions J s ≡ false → H s (c s)
+    pub named : (s : ℕ) → s < P → mentions J s ≡ true → (d : List ℕ) → lastFor J s d ≡ c s
 
   -- homes may be changed at will where J mentions the sector
   pub touch : {H H′ : Holds} {J : List Write} {c : Contents} (n : ℕ) → Frame H H′ n → mentions J n ≡ true
       → Durable H J c → Durable H′ J c
   touch {J = J} {c} n fr m D =
       record {
-        quiet = λ s l e. fr s (c s) (λ q. eqb-no s q e) (D .quiet s l e);
-        loud = D .loud;
+        unnamed = λ s l e. fr s (c s) (λ q. eqb-no s q e) (D .unnamed s l e);
+        named = D .named;
       }
     where
       eqb-no : (s : ℕ) → s ≡ n → mentions J s ≡ false → ⊥
@@ -108,10 +108,10 @@ module _ (P : ℕ) where
   pub tear : {H : Holds} {c : Contents} (b J : List Write) → Clean H c → Durable H (b ++ J) c → Durable H J c
   tear {H} {c} b J C D =
       record {
-        quiet = λ s l e. C s l;
-        loud = λ s l e d.
-            lastFor-loud J s d (lastFor b s d) e ∙ sym (lastFor-append b J s d)
-            ∙ D .loud s l (mentions-append b J s ∙ ap (_||_ (mentions b s)) e ∙ or-true (mentions b s)) d;
+        unnamed = λ s l e. C s l;
+        named = λ s l e d.
+            lastFor-named J s d (lastFor b s d) e ∙ sym (lastFor-append b J s d)
+            ∙ D .named s l (mentions-append b J s ∙ ap (_||_ (mentions b s)) e ∙ or-true (mentions b s)) d;
       }
     where
       or-true : (t : Bool) → _||_ t true ≡ true
@@ -122,16 +122,16 @@ module _ (P : ℕ) where
   pub commit : {H : Holds} {c : Contents} (J b : List Write) → Clean H c → Durable H J c → Durable H (J ++ b) (entered c b)
   commit {H} {c} J b C D =
       record {
-        quiet = λ s l e.
+        unnamed = λ s l e.
             let k : mentions b s ≡ false = or-false (mentions J s) (mentions b s) (sym (mentions-append J b s) ∙ e) .1 in
-            subst (H s) (sym (lastFor-quiet b s (c s) k)) (C s l);
-        loud = λ s l e d. lastFor-append J b s d ∙ lp s l d (which (mentions J s)) (sym (mentions-append J b s) ∙ e);
+            subst (H s) (sym (lastFor-unnamed b s (c s) k)) (C s l);
+        named = λ s l e d. lastFor-append J b s d ∙ lp s l d (which (mentions J s)) (sym (mentions-append J b s) ∙ e);
       }
     where
       lp : (s : ℕ) → s < P → (d : List ℕ) → Which (mentions J s) → _||_ (mentions J s) (mentions b s) ≡ true
           → lastFor b s (lastFor J s d) ≡ lastFor b s (c s)
-      lp s l d (isTrue t) e = ap (lastFor b s) (D .loud s l t d)
-      lp s l d (isFalse f) e = lastFor-loud b s (lastFor J s d) (c s) (sym (ap (λ (x : Bool). _||_ x (mentions b s)) f) ∙ e)
+      lp s l d (isTrue t) e = ap (lastFor b s) (D .named s l t d)
+      lp s l d (isFalse f) e = lastFor-named b s (lastFor J s d) (c s) (sym (ap (λ (x : Bool). _||_ x (mentions b s)) f) ∙ e)
 
   -- ---- a pass that brings the writes of L home, one after the other: i are home, and where mid, the next is under way
 
@@ -213,8 +213,8 @@ module _ (P : ℕ) where
   pass-starts H c L C =
       record {
         within = omega arith;
-        rest = λ s l e. subst (H s) (sym (lastFor-quiet L s (c s) e)) (C s l);
-        ends = λ s l e d. lastFor-loud L s d (c s) e;
+        rest = λ s l e. subst (H s) (sym (lastFor-unnamed L s (c s) e)) (C s l);
+        ends = λ s l e d. lastFor-named L s d (c s) e;
         done = λ s l e d. absurd (let z : _≡_ {A = ℕ} 0 1 = cc in omega arith);
       }
 
@@ -223,13 +223,13 @@ module _ (P : ℕ) where
   pass-replays D =
       record {
         within = omega arith;
-        rest = D .quiet;
-        ends = D .loud;
+        rest = D .unnamed;
+        ends = D .named;
         done = λ s l e d. absurd (let z : _≡_ {A = ℕ} 0 1 = cc in omega arith);
       }
 
   pub durable-map : {H H′ : Holds} {J : List Write} {c : Contents} → ((s : ℕ) (d : List ℕ) → H s d → H′ s d) → Durable H J c → Durable H′ J c
-  durable-map {c = c} f D = record { quiet = λ s l e. f s (c s) (D .quiet s l e); loud = D .loud }
+  durable-map {c = c} f D = record { unnamed = λ s l e. f s (c s) (D .unnamed s l e); named = D .named }
 
 pub or-right : (a b : Bool) → b ≡ true → _||_ a b ≡ true
 or-right true b e = refl

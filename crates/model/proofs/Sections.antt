@@ -1,22 +1,22 @@
 -- Laws of a section: the id field and the entries do not overlap; an entry that is put is read back, and leaves the others.
 use Prim.Native.Nat.{ℕ, zero, suc, _+_, _-_, _*_, _/_, _%_, _^_, _≤_, _<_}
-use mathlib.Core.Bool.{Bool, true, false, not}
-use mathlib.Core.Path.{_≡_, refl, sym, ap, _∙_, subst}
-use mathlib.Core.Logic.{_≢_, _⊎_, inl, inr}
-use mathlib.Core.List.{List, [], _∷_, _++_}
+use mathlib.Core.Bool.{Bool, true, false}
+use mathlib.Core.Path.{_≡_, sym, ap, _∙_, subst}
+use mathlib.Core.Logic.{_≢_}
+use mathlib.Core.List.{List, _++_}
 use native.Mathlib.Omega.{arith}
-use native.Mathlib.Decide.{decLe, decLt, ℕ-discrete}
+use native.Mathlib.Decide.{decLt, ℕ-discrete}
 use native.Mathlib.Nat.{mul-le-mul-right, suc-mul, mod-lt, div-add-mod', mul-comm}
-use lib.Dec.{ltb, leb}
-use borrow.Author.Tests.{lt-ltb, le-ltb}
+use lib.Dec.{ltb}
+use lib.ListN.{replicate, length-replicate, length, take, drop, length-append, length-drop, take-append-drop}
+use lib.Seq.{take-append-le, drop-append-le, take-at, drop-at, length-take-le, drop-drop, take-all}
+use borrow.Author.Tests.{lt-ltb}
 use Rattle.octets.specs.Choice.{pick}
-use lib.ListN.{replicate, length-replicate, length, take, drop, length-append, length-take, length-drop, take-append-drop}
-use lib.Seq.{take-append-le, drop-append-le, take-at, drop-at, length-take-le, drop-drop, take-take, take-all}
 use Rattle.octets.specs.Numbers.{le, value}
 use Rattle.octets.proofs.Numbers.{length-le, value-le}
 use Rattle.octets.specs.Parts.{part, patch}
 use Rattle.octets.specs.Sectors.{sectorAt, putSector}
-use Rattle.octets.proofs.Parts.{part-patch-same, part-patch-before, part-patch-after, length-patch, part-part, length-part}
+use Rattle.octets.proofs.Parts.{part-append-left, part-patch-same, length-patch, part-part, length-part}
 use Rattle.octets.proofs.Sectors.{length-put, sector-put-same, sector-put-other}
 use Rattle.model.specs.Layout.{entrySize, perSector, entryCount, sectionSize}
 use Rattle.model.specs.Section.{collect, unused, emptyEntry, emptySector, emptySection, Entry, idOf, withId, metadataOf, entryOffset, readEntry, entryOf, entryBytes, putEntry}
@@ -242,11 +242,6 @@ entry-stamped t pos sec st n size e i l =
         }
 
 -- ---- chunks of one length, and the empty section
-
-pub part-append-left : (a b : List ℕ) (x m : ℕ) → x + m ≤ length a → part (a ++ b) x m ≡ part a x m
-part-append-left a b x m h =
-    let k : m ≤ length (drop x a) = rw length-drop (omega arith) in
-    rw (drop-append-le x a b (omega arith), take-append-le m (drop x a) b k)
 
 module _ (f : ℕ → List ℕ) (z : ℕ) where
   pub length-collect : (n : ℕ) → ((i : ℕ) → i < n → length (f i) ≡ z) → length (collect n f) ≡ n * z

@@ -1,44 +1,39 @@
 -- A step from each phase keeps the invariant.
-use Prim.Native.Nat.{ℕ, zero, suc, _+_, _-_, _*_, _/_, _%_, _^_, _≤_, _<_}
-use mathlib.Core.Bool.{Bool, true, false, not, _&&_}
+use Prim.Native.Nat.{ℕ, zero, suc, _+_, _-_, _*_, _%_, _^_, _≤_, _<_}
+use mathlib.Core.Bool.{Bool, true, false}
 use mathlib.Core.Path.{_≡_, refl, sym, ap, _∙_, subst}
 use mathlib.Core.Logic.{_≢_}
 use mathlib.Core.List.{List, [], _∷_, _++_}
 use native.Mathlib.Omega.{arith}
-use native.Mathlib.Decide.{decLe, decLt, ℕ-discrete}
+use native.Mathlib.Decide.{decLt, ℕ-discrete}
+use native.Mathlib.Numerals.{add-one}
 use lib.ListN.{length, getD, length-append, List·getD-append}
 use lib.Seq.{getD-at}
-use lib.Dec.{leb, ltb, eqb}
-use borrow.Author.Tests.{eqb-true, eqb-false, eq-eqb, ne-eqb, lt-ltb, le-ltb, le-leb, lt-leb}
-use Rattle.octets.specs.Choice.{pick}
-use Rattle.octets.specs.Parts.{part}
-use Rattle.octets.specs.Sectors.{sectorAt, putSector}
-use Rattle.model.specs.Layout.{entryCount, perSector, sectionSize, sectionAt, base, dataAt, needed, layoutOk}
-use Rattle.model.specs.Section.{Entry, unused, idOf, withId, entryOf, emptySection}
-use Rattle.model.specs.Journal.{sealed, sectionOf, greatestId, wholeIds, Replayed, replay}
+use lib.Dec.{eqb}
+use borrow.Author.Tests.{eq-eqb, ne-eqb, lt-ltb, le-ltb, le-leb, lt-leb}
+use Rattle.octets.specs.Choice.{Unmet}
+use Rattle.model.specs.Layout.{entryCount, sectionSize, sectionAt, needed}
+use Rattle.model.specs.Section.{Entry, entryOf, emptySection}
+use Rattle.model.specs.Journal.{sealed, greatestId, Replayed, replay}
 use Rattle.model.specs.Tag.{Tag}
-use Rattle.model.specs.Store.{Store, one, afterEffect, homeStore, made, storesOf, homeCount, plan, Place, storeOf}
-use Rattle.octets.specs.Choice.{firstMet, Unmet}
+use Rattle.model.specs.Store.{one, afterEffect, homeStore, made, storesOf, homeCount}
 use Rattle.octets.proofs.Choice.{passes}
 use Rattle.model.specs.Flush.{inPhase}
 use Rattle.model.specs.State.{passed, volumeLoanOk, placeOk, replayOk, stateOk, volumeOk, stagingOk}
-use Rattle.model.specs.Step.{noEntry, noPlace, placeAt, placeRow, rangeRows, stepRows, StepResult, commitStep, homeStep, writeBackStep, recoverPlace, recoverStep, phaseStep, stepBy, stepOf}
-use Rattle.model.specs.Ledger.{stepped, Write, Contents, Ledger, entered, countDown, afterStep, note}
+use Rattle.model.specs.Step.{noEntry, rangeRows, stepRows, StepResult, commitStep, homeStep, writeBackStep, recoverStep, phaseStep, stepBy, stepOf}
+use Rattle.model.specs.Ledger.{stepped, Write, Ledger, entered, countDown, afterStep, note}
 use Rattle.model.specs.World.{Live, off, on, World, stepTaken, stepWorld}
-use Rattle.model.proofs.Replays.{mentions, mentions-get, Clean, Pass, pass-ends, noWrite, Which, isTrue, isFalse, which}
-use Rattle.model.proofs.Journals.{Every, every-get, writes, length-writes, writeOfEntry, batchOf}
-use Rattle.model.proofs.Addresses.{Ranged}
+use Rattle.model.proofs.Replays.{mentions, mentions-get, Pass, pass-ends, noWrite}
+use Rattle.model.proofs.Journals.{every-get, writes, length-writes, writeOfEntry, batchOf}
 use Rattle.model.proofs.Homes.{Home}
 use Rattle.model.proofs.Plans.{At, at-low, at-half, at-get, at-on, at-next, at-last, at-in, home-some, home-two}
-use Rattle.model.proofs.Invariant.{replay-goods, stateAt, Good, Disk, Staged, Progress, AtFilling, AtCommit, AtHome, AtRecover, Lives, dead, filling, committing, homing, recovering, disk-home, Advance, further, arrived, advance, replays, tops}
+use Rattle.model.proofs.Invariant.{Setting, replay-goods, stateAt, Good, Disk, Staged, Progress, AtFilling, AtCommit, AtHome, AtRecover, Lives, filling, committing, writingBack, recovering, disk-home, Advance, further, arrived, advance, replays, tops}
 use Rattle.model.proofs.Sections.{length-empty, empty-unused}
-use native.Mathlib.Numerals.{add-one}
 use Rattle.model.proofs.Committing.{commit-goes, seal-disk, seal-ends}
 use Rattle.model.specs.declared.Layout.{Layout}
 use Rattle.model.specs.declared.Phase.{Phase}
 use Rattle.model.specs.declared.Phase.the-variants.{Filling, Committing, WritingBack, Recovering}
 use Rattle.model.specs.declared.State.{State}
-use Rattle.model.specs.declared.StepAnswer.{StepAnswer}
 use Rattle.model.specs.declared.StepAnswer.the-variants.{Stepped}
 use Rattle.model.specs.declared.Done.the-variants.{Stored}
 use Rattle.model.specs.declared.Says.the-variants as saying
@@ -102,22 +97,20 @@ enters l = go (l .due)
     go (suc zero) e = refl
     go (suc (suc d)) e = absurd (omega arith)
 
-module _ (tag : Tag) (g : Layout) (v₀ : List ℕ) (R : Ranged g) (ok : layoutOk g ≡ true) (pos : 0 < perSector (g .width))
-    (sz : (s : ℕ) (b : List ℕ) → length (tag s b) ≡ g .width) (room₀ : needed g * 512 ≤ length v₀) (wholes₀ : volumeLoanOk v₀ ≡ true)
-    (N : ℕ) (len : length v₀ ≡ N * 512) where
+module _ (tag : Tag) (g : Layout) (v₀ : List ℕ) (X : Setting tag g v₀) where
   pub record Inv (w : World) (l : Ledger) : Type 0 where
     pub lives : Lives tag g v₀ (w .medium) l (w .live)
-    pub quietly : w .settled ≡ true → FillsLive (w .live)
+    pub fills : w .settled ≡ true → FillsLive (w .live)
 
   pub sound : (n m : ℕ) (p : Phase) → n ≤ entryCount (g .width) → m ≢ 0 → placeOk g n m p ≡ true → stateOk (stateAt g n m p) ≡ true
   unfolding stateOk
-  sound n m p h z e = rw (ok, le-leb n (entryCount (g .width)) h, ne-eqb m 0 z, e)
+  sound n m p h z e = rw ((X .layout), le-leb n (entryCount (g .width)) h, ne-eqb m 0 z, e)
 
   pub sound-volume : (v : List ℕ) (n m : ℕ) (p : Phase) → length v ≡ length v₀ → replayOk g v p ≡ true → volumeOk (stateAt g n m p) v ≡ true
   unfolding volumeOk
   sound-volume v n m p z e =
-      let a : volumeLoanOk v ≡ true = rw z wholes₀ in
-      rw (a, le-leb (needed g * 512) (length v) (rw z room₀), e)
+      let a : volumeLoanOk v ≡ true = rw z (X .loan) in
+      rw (a, le-leb (needed g * 512) (length v) (rw z (X .room)), e)
 
   pub sound-staging : (st : List ℕ) → length st ≡ sectionSize (g .width) * 512 → stagingOk g st ≡ true
   unfolding stagingOk
@@ -134,7 +127,7 @@ module _ (tag : Tag) (g : Layout) (v₀ : List ℕ) (R : Ranged g) (ok : layoutO
 
   step-filling : (v : List ℕ) (l : Ledger) (n m : ℕ) (st : List ℕ) → Disk tag g v₀ v (l .contents) → AtFilling tag g v₀ v l n m st
       → StepLeads v l (phaseStep (stateAt g n m Filling) v st Filling)
-  step-filling v l n m st D A = record { lives = filling n m st (rw (still l (A .due)) D) (rw (still l (A .due)) A); quietly = λ q. tt }
+  step-filling v l n m st D A = record { lives = filling n m st (rw (still l (A .due)) D) (rw (still l (A .due)) A); fills = λ q. tt }
 
   -- ---- committing
 
@@ -145,20 +138,20 @@ module _ (tag : Tag) (g : Layout) (v₀ : List ℕ) (R : Ranged g) (ok : layoutO
       let l′ : Ledger = record { contents = l .contents; batch = l .batch; due = l .due - 1 } in
       rw (lt-ltb (j + 1) (sectionSize (g .width)) q, ticks l (omega (arith, A .due)))
       (record {
-        lives = committing n m (j + 1) st q (commit-goes tag g v₀ R room₀ N len v l n m j st A p l′ refl refl (omega (arith, A .due)));
-        quietly = λ q. never q;
+        lives = committing n m (j + 1) st q (commit-goes tag g v₀ X v l n m j st A p l′ refl refl (omega (arith, A .due)));
+        fills = λ q. never q;
       })
   commit-stores v l n m j st p A (no q) =
       let l₁ : Ledger = record { contents = l .contents; batch = l .batch; due = l .due - 1 } in
       let l′ : Ledger = record { contents = entered (l .contents) (l .batch); batch = []; due = 0 } in
       let w : List ℕ = made v (record { at = sectionAt g ((m - 1) % g .sections) + j; content = sealed g st m j }) in
       let z : j + 1 ≡ sectionSize (g .width) = omega arith in
-      let B : AtCommit tag g v₀ w l₁ n m (j + 1) st = commit-goes tag g v₀ R room₀ N len v l n m j st A p l₁ refl refl (omega (arith, A .due)) in
+      let B : AtCommit tag g v₀ w l₁ n m (j + 1) st = commit-goes tag g v₀ X v l n m j st A p l₁ refl refl (omega (arith, A .due)) in
       rw (le-ltb (j + 1) (sectionSize (g .width)) (omega arith), enters l (omega (arith, A .due)))
       (record {
-        lives = homing n (m + 1) 0 0 st (seal-disk tag g v₀ R room₀ N len w l₁ n m (j + 1) st B pos z)
-            (seal-ends tag g v₀ R room₀ N len w l₁ n m (j + 1) st B pos z l′ refl refl refl);
-        quietly = λ q. never q;
+        lives = writingBack n (m + 1) 0 0 st (seal-disk tag g v₀ X w l₁ n m (j + 1) st B z)
+            (seal-ends tag g v₀ X w l₁ n m (j + 1) st B z l′ refl refl refl);
+        fills = λ q. never q;
       })
 
   step-commit : (v : List ℕ) (l : Ledger) (n m j : ℕ) (st : List ℕ) → j < sectionSize (g .width) → AtCommit tag g v₀ v l n m j st
@@ -170,10 +163,10 @@ module _ (tag : Tag) (g : Layout) (v₀ : List ℕ) (R : Ranged g) (ok : layoutO
   pub staged-empty : Staged tag g v₀ (emptySection (g .width)) 0
   staged-empty =
       record {
-        size = length-empty (g .width) pos;
+        size = length-empty (g .width) (X .some);
         count = omega arith;
         goods = λ i l. absurd (omega arith);
-        free = λ i a l. empty-unused (g .width) pos i l;
+        free = λ i a l. empty-unused (g .width) (X .some) i l;
       }
 
   home-stored : (s : State) (v st : List ℕ) (e : Entry) (h : ℕ) (p : Phase) (left : List ℕ)
@@ -229,21 +222,21 @@ module _ (tag : Tag) (g : Layout) (v₀ : List ℕ) (R : Ranged g) (ok : layoutO
       w h = made v (homeStore g v e h)
 
       disk-now : (h : ℕ) → h < homeCount g e → Disk tag g v₀ (w h) (l .contents)
-      disk-now h k = disk-home tag g v₀ R sz room₀ v (l .contents) D e G h k named
+      disk-now h k = disk-home tag g v₀ X v (l .contents) D e G h k named
 
       next-now : (h : ℕ) → h < homeCount g e → m ≡ greatestId g (w h) + 1
-      next-now h k = A .next ∙ ap (λ (x : ℕ). x + 1) (sym (tops tag g v₀ R sz room₀ v (l .contents) D e G h k))
+      next-now h k = A .next ∙ ap (λ (x : ℕ). x + 1) (sym (tops tag g v₀ X v (l .contents) D e G h k))
 
       within-now : (h : ℕ) → h < homeCount g e → (s : ℕ) → mentions L s ≡ true → mentions (writes (replay g (w h))) s ≡ true
-      within-now h k s q = rw (replays tag g v₀ R sz room₀ v (l .contents) D e G h k) (A .within s q)
+      within-now h k s q = rw (replays tag g v₀ X v (l .contents) D e G h k) (A .within s q)
 
-      advanced : Advance tag g v₀ R sz room₀ v (l .contents) D e G L i h → StepLeads v l (writeBackStep (stateAt g n m (WritingBack i h)) v st i h)
+      advanced : Advance tag g v₀ X v (l .contents) D e G L i h → StepLeads v l (writeBackStep (stateAt g n m (WritingBack i h)) v st i h)
       advanced (further b p) =
           rw (ne-eqb (h + 1) (homeCount g e) (omega arith))
           (subst (StepLeads v l) (sym (home-stored (stateAt g n m (WritingBack i h)) v st e h (WritingBack i (h + 1)) (emptySection (g .width))))
           (rw (still l (A .due))
           (record {
-            lives = homing n m i (h + 1) st (disk-now h (A .half))
+            lives = writingBack n m i (h + 1) st (disk-now h (A .half))
                 (record {
                   staged = A .staged;
                   empty = A .empty;
@@ -254,7 +247,7 @@ module _ (tag : Tag) (g : Layout) (v₀ : List ℕ) (R : Ranged g) (ok : layoutO
                   within = within-now h (A .half);
                   progress = p;
                 });
-            quietly = λ q. never q;
+            fills = λ q. never q;
           })))
       advanced (arrived b p) = go (ℕ-discrete (i + 1) n)
         where
@@ -273,14 +266,14 @@ module _ (tag : Tag) (g : Layout) (v₀ : List ℕ) (R : Ranged g) (ok : layoutO
                       clean = pass-ends (g .provided)
                           (subst (Pass (g .provided) (Home g tag (w h)) (l .contents) L) (sym (length-batch (g .width) st n ∙ sym q ∙ add-one i)) p);
                     });
-                quietly = λ q. tt;
+                fills = λ q. tt;
               })))
           go (no q) =
               rw (eq-eqb (h + 1) (homeCount g e) b, ne-eqb (i + 1) n q)
               (subst (StepLeads v l) (sym (home-stored (stateAt g n m (WritingBack i h)) v st e h (WritingBack (i + 1) 0) (emptySection (g .width))))
               (rw (still l (A .due))
               (record {
-                lives = homing n m (i + 1) 0 st (disk-now h (A .half))
+                lives = writingBack n m (i + 1) 0 st (disk-now h (A .half))
                     (record {
                       staged = A .staged;
                       empty = A .empty;
@@ -291,13 +284,13 @@ module _ (tag : Tag) (g : Layout) (v₀ : List ℕ) (R : Ranged g) (ok : layoutO
                       within = within-now h (A .half);
                       progress = subst (Pass (g .provided) (Home g tag (w h)) (l .contents) L) (sym (add-one i)) p;
                     });
-                quietly = λ q. never q;
+                fills = λ q. never q;
               })))
 
     step-home : (n m i h : ℕ) (st : List ℕ) → AtHome tag g v₀ v l n m i h st → StepLeads v l (writeBackStep (stateAt g n m (WritingBack i h)) v st i h)
     step-home n m i h st A =
         advanced n m i h st A
-        (advance tag g v₀ R sz room₀ v (l .contents) D (entryOf (g .width) st i) (G n m i h st A) (batchOf (g .width) st n) i (in-L n m i h st A) (got n m i h st A) h (A .half) (A .progress))
+        (advance tag g v₀ X v (l .contents) D (entryOf (g .width) st i) (G n m i h st A) (batchOf (g .width) st n) i (in-L n m i h st A) (got n m i h st A) h (A .half) (A .progress))
 
     -- recovering, at store k, which is store h of entry i
     module _ (m k : ℕ) (st : List ℕ) (A : AtRecover tag g v₀ v l m k st) where
@@ -335,13 +328,13 @@ module _ (tag : Tag) (g : Layout) (v₀ : List ℕ) (R : Ranged g) (ok : layoutO
       u h = made v (homeStore g v f h)
 
       diskJ : (h : ℕ) → h < homeCount g f → Disk tag g v₀ (u h) (l .contents)
-      diskJ h b = disk-home tag g v₀ R sz room₀ v (l .contents) D f GJ h b namedJ
+      diskJ h b = disk-home tag g v₀ X v (l .contents) D f GJ h b namedJ
 
       sameJ : (h : ℕ) → h < homeCount g f → replay g (u h) ≡ replay g v
-      sameJ h b = replays tag g v₀ R sz room₀ v (l .contents) D f GJ h b
+      sameJ h b = replays tag g v₀ X v (l .contents) D f GJ h b
 
       nextJ : (h : ℕ) → h < homeCount g f → m ≡ greatestId g (u h) + 1
-      nextJ h b = A .next ∙ ap (λ (y : ℕ). y + 1) (sym (tops tag g v₀ R sz room₀ v (l .contents) D f GJ h b))
+      nextJ h b = A .next ∙ ap (λ (y : ℕ). y + 1) (sym (tops tag g v₀ X v (l .contents) D f GJ h b))
 
       abbrev After : ℕ → Type 0
       After h = StepLeads v l (homeStep s v st f h (eqb (k + 1) (storesOf g J)) (Recovering (k + 1)) st)
@@ -364,7 +357,7 @@ module _ (tag : Tag) (g : Layout) (v₀ : List ℕ) (R : Ranged g) (ok : layoutO
                   spot = rw (sameJ h b) a;
                   progress = rw (sameJ h b) p;
                 });
-            quietly = λ q. never q;
+            fills = λ q. never q;
           })))
 
       ended : (h : ℕ) → h < homeCount g f → k + 1 ≡ storesOf g J → Pass (g .provided) (Home g tag (u h)) (l .contents) (writes J) (length (writes J)) → After h
@@ -376,10 +369,10 @@ module _ (tag : Tag) (g : Layout) (v₀ : List ℕ) (R : Ranged g) (ok : layoutO
             lives = filling 0 m st (diskJ h b)
                 (record
                 { staged = A .staged; batch = sym (A .empty); due = A .due; next = nextJ h b; clean = pass-ends (g .provided) p });
-            quietly = λ q. tt;
+            fills = λ q. tt;
           })))
 
-      recover-half : (h : ℕ) → At g J k ri h → Advance tag g v₀ R sz room₀ v (l .contents) D f GJ (writes J) ri h → After h
+      recover-half : (h : ℕ) → At g J k ri h → Advance tag g v₀ X v (l .contents) D f GJ (writes J) ri h → After h
       recover-half h a (further b p) = go-on h ri (h + 1) (at-half g a) (at-on g a b) p
       recover-half h a (arrived b p) = go (ℕ-discrete (ri + 1) (length J))
         where
@@ -394,7 +387,7 @@ module _ (tag : Tag) (g : Layout) (v₀ : List ℕ) (R : Ranged g) (ok : layoutO
       step-recover =
           rw (at-get g (A .spot))
           (recover-half (A .h) (A .spot)
-          (advance tag g v₀ R sz room₀ v (l .contents) D f GJ (writes J) ri in-W gotJ (A .h) (at-half g (A .spot)) (A .progress)))
+          (advance tag g v₀ X v (l .contents) D f GJ (writes J) ri in-W gotJ (A .h) (at-half g (A .spot)) (A .progress)))
 
       -- the store leaves the replay as it is
       pub replay-stays : replay g (afterEffect v (recoverStep (stateAt g 0 m (Recovering k)) v st k .effect)) ≡ replay g v
@@ -421,7 +414,7 @@ module _ (tag : Tag) (g : Layout) (v₀ : List ℕ) (R : Ranged g) (ok : layoutO
       sound-runs v n m st (Committing j) (A .staged) (omega (arith, A .next))
       (rw (lt-ltb j (sectionSize (g .width)) p, lt-ltb 0 n (A .some), lt-ltb m (2 ^ 64 - 1) (A .given)))
       (A .torn .long ∙ A .disk .sized) refl tt
-  live-runs v l s st (homing n m i h _ D A) =
+  live-runs v l s st (writingBack n m i h _ D A) =
       sound-runs v n m st (WritingBack i h) (A .staged) (omega (arith, A .next))
       (rw (lt-ltb i n (A .place), lt-ltb h 2 (omega (arith, A .half, home-two g (entryOf (g .width) st i)))))
       (D .sized) refl (lt-leb (g .provided) (entryOf (g .width) st i .sector) (G v l D n m i h st A .low), tt)
@@ -432,7 +425,7 @@ module _ (tag : Tag) (g : Layout) (v₀ : List ℕ) (R : Ranged g) (ok : layoutO
   phase-keeps : (v : List ℕ) (l : Ledger) (s : State) (st : List ℕ) → Lives tag g v₀ v l (on s st) → StepLeads v l (phaseStep s v st (s .phase))
   phase-keeps v l s st (filling n m _ D A) = step-filling v l n m st D A
   phase-keeps v l s st (committing n m j _ p A) = step-commit v l n m j st p A
-  phase-keeps v l s st (homing n m i h _ D A) = step-home v l D n m i h st A
+  phase-keeps v l s st (writingBack n m i h _ D A) = step-home v l D n m i h st A
   phase-keeps v l s st (recovering m k _ D A) = step-recover v l D m k st A
 
   pub step-keeps : (v : List ℕ) (l : Ledger) (s : State) (st : List ℕ) → Lives tag g v₀ v l (on s st) → StepLeads v l (stepOf s v st)
