@@ -1,0 +1,88 @@
+use Prim.Native.Nat.{ℕ, _+_, _*_}
+use native.Mathlib.Omega.{arith}
+use mathlib.Core.List.{List}
+use mathlib.Core.Path.{_≡_, sym, ap, _∙_}
+use lib.ListN.{length, take}
+use denote.Ref.{now}
+use borrow.Author.Needs.{needs}
+use Rattle.tree.specs.Places.{blockSize, levelsOf, hashBlocksOf, placesOf}
+use Rattle.tree.specs.Path.{computedOf, standingOf}
+use Rattle.tree.specs.Answer.{Refusal}
+use Rattle.tree.specs.Verify.{comparedOf}
+use Rattle.tree.proofs.PlaceLaws.{block-in, digest-in}
+use Rattle.tree.proofs.Returns.{verify-block, verify-root, verify-none, verify-many, verify-salt, verify-index, verify-tree, verify-path}
+use Rattle.tree.proofs.verify.Statement.{statement}
+use Rattle.tree.proofs.verify.Tie as tie
+
+-- what the parts come to: h, the places and the digests as their arrays hold them
+parts : (h n i : ℕ) (s t b r ps : List ℕ) (ds : List (List ℕ)) (v : Refusal) → h ≡ levelsOf n → take h ps ≡ placesOf h n i → take (h + 1) ds ≡ computedOf s t b (take h ps)
+    → v ≡ comparedOf (take (h + 1) ds) (standingOf r t (take h ps))
+    → v ≡ comparedOf (computedOf s t b (placesOf (levelsOf n) n i)) (standingOf r t (placesOf (levelsOf n) n i))
+parts h n i s t b r ps ds v eh ep ed ev =
+    let q : take h ps ≡ placesOf (levelsOf n) n i = ep ∙ ap (λ (k : ℕ). placesOf k n i) eh in
+    ev ∙ rw (ed, q)
+
+returns : tie.Need-returns
+returns c = verify-block _ _ _ _ _ _ (omega arith)
+
+returns-2 : tie.Need-returns-2
+returns-2 c = verify-root _ _ _ _ _ _ (omega arith) (omega arith)
+
+returns-3 : tie.Need-returns-3
+returns-3 c = verify-none _ _ _ _ _ _ (omega arith) (omega arith) (omega arith)
+
+returns-4 : tie.Need-returns-4
+returns-4 c = verify-many _ _ _ _ _ _ (omega arith) (omega arith) (omega arith) (omega arith)
+
+returns-5 : tie.Need-returns-5
+returns-5 c = verify-salt _ _ _ _ _ _ (omega arith) (omega arith) (omega arith) (omega arith) (omega arith)
+
+returns-6 : tie.Need-returns-6
+returns-6 c =
+    verify-index _ _ _ _ _ _ (omega arith) (omega arith) (omega arith) (omega arith) (omega arith) (omega arith)
+
+returns-7 : tie.Need-returns-7
+returns-7 c =
+    verify-tree _ _ _ _ _ _ (omega arith) (omega arith) (omega arith) (omega arith) (omega arith) (omega arith) (omega (arith, c .before .tree-length .ensures))
+
+computed-requires : tie.Need-computed-requires
+computed-requires c κs =
+    let a = c .before .before .before .before .before .before .before .before .before .before .before .before .before .before .args in
+    let h = c .before .levels in
+    let size : length (now (a .tree)) ≡ hashBlocksOf (h .result) (a .count) * blockSize =
+    (omega (arith, c .before .before .before .tree-length .ensures, c .before .before .if7 .left)) ∙ ap (λ (k : ℕ). hashBlocksOf k (a .count) * blockSize) (sym (h .ensures .0)) in
+    (omega arith, omega arith, omega arith, block-in (c .places .result) (now (a .tree)) (h .result) (a .count) (a .index) (c .places .ensures .0) (omega arith) size)
+
+compare-requires : tie.Need-compare-requires
+compare-requires c κs =
+    let a = c .before .before .before .before .before .before .before .before .before .before .before .before .before .before .before .args in
+    let h = c .before .before .levels in
+    let size : length (now (a .tree)) ≡ hashBlocksOf (h .result) (a .count) * blockSize =
+    (omega (arith, c .before .before .before .before .tree-length .ensures, c .before .before .before .if7 .left)) ∙ ap (λ (k : ℕ). hashBlocksOf k (a .count) * blockSize) (sym (h .ensures .0)) in
+    (omega arith, omega arith, digest-in (c .before .places .result) (now (a .tree)) (h .result) (a .count) (a .index) (c .before .places .ensures .0) (omega arith) size)
+
+returns-8 : tie.Need-returns-8
+returns-8 c =
+    let a = c .before .before .before .before .before .before .before .before .before .before .before .before .before .before .before .before .args in
+    parts (c .before .before .before .levels .result) (a .count) (a .index) (now (a .salt)) (now (a .tree)) (now (a .block)) (now (a .root)) (c .before .before .places .result) (c .before .computed .result) _ (c .before .before .before .levels .ensures .0) (c .before .before .places .ensures .0)
+    (c .before .computed .ensures .0) (c .compare .ensures)
+    ∙ verify-path (now (a .block)) (a .index) (now (a .tree)) (a .count) (now (a .salt)) (now (a .root)) (omega arith) (omega arith) (omega arith) (omega arith) (omega arith) (omega arith)
+    (omega (arith, c .before .before .before .before .before .tree-length .ensures, c .before .before .before .before .if7 .left))
+
+pub verify-spec : {M : Type 1} → statement M
+verify-spec =
+    tie.close
+    (tie.spec
+    returns
+    returns-2
+    returns-3
+    returns-4
+    returns-5
+    returns-6
+    (λ c κs. search needs)
+    returns-7
+    (λ c κs. search needs)
+    (λ c κs. search needs)
+    computed-requires
+    compare-requires
+    returns-8)

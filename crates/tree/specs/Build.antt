@@ -1,0 +1,41 @@
+-- The call that builds a tree. Document 01, "Hash tree": building is refused 2 (count, salt length), then 1 (image, tree).
+--
+-- BuildOutcome          : the answer, the root digest and the bytes of the tree loan
+-- outcomeOf b t         : what the call returned and left in the tree loan
+-- buildRows n s d t     : the refusals for the count n, salt s, image d and tree loan t, in order
+-- buildOf n s d t       : what the call does. Refused, it leaves the loan as it was, and the root digest is zeros
+use Prim.Native.Nat.{ℕ, _*_}
+use mathlib.Core.Bool.{Bool, not}
+use mathlib.Core.List.{List, [], _∷_}
+use lib.Dec.{eqb, ltb}
+use lib.ListN.{length, replicate}
+use Rattle.octets.specs.Choice.{firstMet}
+use Rattle.tree.specs.declared.Built.{Built}
+use Rattle.tree.specs.Places.{blockSize, digestSize, mostBlocks, longestSalt, levelsOf, treeLength}
+use Rattle.tree.specs.Tree.{treeOf, rootOf}
+use Rattle.tree.specs.Answer.{Refusal, refusalOf, taken, refusal}
+
+pub record BuildOutcome : Type 0 where
+  pub refused : Refusal
+  pub root : List ℕ
+  pub tree : List ℕ
+
+abbrev pub outcomeOf : Built → List ℕ → BuildOutcome
+outcomeOf b t = record { refused = refusalOf (b .answer); root = b .root; tree = t }
+
+abbrev pub refusedWith : ℕ → List ℕ → BuildOutcome
+refusedWith k t = record { refused = refusal k; root = replicate digestSize 0; tree = t }
+
+abbrev pub buildRows : ℕ → List ℕ → List ℕ → List ℕ → List (Bool × BuildOutcome)
+buildRows n s d t =
+    (eqb n 0, refusedWith 2 t) ∷
+    (ltb mostBlocks n, refusedWith 2 t) ∷
+    (ltb longestSalt (length s), refusedWith 2 t) ∷
+    (not (eqb (length d) (n * blockSize)), refusedWith 1 t) ∷
+    (not (eqb (length t) (treeLength n)), refusedWith 1 t) ∷ []
+
+abbrev pub builtOf : ℕ → List ℕ → List ℕ → BuildOutcome
+builtOf n s d = record { refused = taken; root = rootOf (levelsOf n) s n d; tree = treeOf (levelsOf n) s n d }
+
+unfoldable pub buildOf : ℕ → List ℕ → List ℕ → List ℕ → BuildOutcome
+buildOf n s d t = firstMet (buildRows n s d t) (builtOf n s d)

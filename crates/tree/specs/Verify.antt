@@ -1,0 +1,41 @@
+-- The call that verifies a data block. Document 01, "Hash tree": verifying is refused 1 (block, root digest), 2 (count, salt length, index), 1 (tree), then 12
+-- where a digest computed along the path differs from what stands above it, compared from the root down.
+--
+-- loanRows b i t n s r  : the refusals 1 and 2 for the data block b, index i, tree t, count n, salt s and root digest r, in order
+-- pathRows k xs ys      : the refusals 12, from the root down: xs are the digests computed and ys what stands above each, the first of them at place k on the path
+-- comparedOf xs ys      : the first of those that is met on a whole path
+-- verifyOf b i t n s r  : the first of all that is met, which is the call's answer
+use Prim.Native.Nat.{ℕ, suc}
+use mathlib.Core.Bool.{Bool, not}
+use mathlib.Core.List.{List, [], _∷_, _++_}
+use lib.Dec.{eqb, ltb, leb}
+use lib.ListN.{length}
+use Rattle.octets.specs.Choice.{firstMet}
+use Rattle.octets.specs.Parts.{same}
+use Rattle.tree.specs.Places.{blockSize, digestSize, mostBlocks, longestSalt, levelsOf, placesOf, treeLength}
+use Rattle.tree.specs.Path.{computedOf, standingOf}
+use Rattle.tree.specs.Answer.{Refusal, taken, refusal, mismatch}
+
+abbrev pub loanRows : List ℕ → ℕ → List ℕ → ℕ → List ℕ → List ℕ → List (Bool × Refusal)
+loanRows b i t n s r =
+    (not (eqb (length b) blockSize), refusal 1) ∷
+    (not (eqb (length r) digestSize), refusal 1) ∷
+    (eqb n 0, refusal 2) ∷
+    (ltb mostBlocks n, refusal 2) ∷
+    (ltb longestSalt (length s), refusal 2) ∷
+    (leb n i, refusal 2) ∷
+    (not (eqb (length t) (treeLength n)), refusal 1) ∷ []
+
+unfoldable pub pathRows : ℕ → List (List ℕ) → List (List ℕ) → List (Bool × Refusal)
+pathRows k [] ys = []
+pathRows k (x ∷ xs) [] = []
+pathRows k (x ∷ xs) (y ∷ ys) = pathRows (suc k) xs ys ++ ((not (same x y), mismatch k) ∷ [])
+
+abbrev pub comparedOf : List (List ℕ) → List (List ℕ) → Refusal
+comparedOf xs ys = firstMet (pathRows 0 xs ys) taken
+
+unfoldable pub verifyOf : List ℕ → ℕ → List ℕ → ℕ → List ℕ → List ℕ → Refusal
+verifyOf b i t n s r =
+    firstMet
+    (loanRows b i t n s r ++ pathRows 0 (computedOf s t b (placesOf (levelsOf n) n i)) (standingOf r t (placesOf (levelsOf n) n i)))
+    taken
