@@ -3,11 +3,11 @@
 use Prim.Native.Nat.{ℕ, zero, suc, _+_, _-_, _≤_, _<_}
 use native.Mathlib.Omega.{arith}
 use mathlib.Core.Bool.{Bool, true, false, _&&_}
-use mathlib.Core.List.{List, [], _∷_, _++_, append-assoc}
+use mathlib.Core.List.{List, [], _∷_, _++_, append-assoc, append-nil}
 use mathlib.Core.Logic.{_≢_}
 use mathlib.Core.Path.{_≡_, refl, sym, ap, _∙_, subst}
 use lib.Dec.{eqb}
-use lib.ListN.{length, take, drop, getD, replicate, length-append, length-drop, length-replicate, replicate-append-replicate, take-append-drop}
+use lib.ListN.{length, take, drop, getD, replicate, length-append, length-drop, length-replicate, replicate-append-replicate, take-append-drop, drop-of-length-le}
 use lib.Seq.{take-append-le, drop-append-le, drop-append-add, take-at, drop-at, length-take-le, take-length, take-all, take-take, take-add, drop-drop, getD-take, getD-drop, paste}
 use borrow.Author.Tests.{eqb-true, eq-eqb}
 use Rattle.octets.specs.Numbers.{Bytes}
@@ -121,6 +121,10 @@ patch-join l at x y h =
     let end : at + length (x ++ y) ≡ at + length x + length y = omega (arith, length-append x y) in
     rw (take-patch l at x fits, drop-patch-after l at x fits (at + length x + length y) (omega arith), end) (simp append-assoc)
 
+-- a patch of the whole list
+pub patch-all : (l s : List ℕ) → length s ≡ length l → patch l 0 s ≡ s
+patch-all l s e = ap (λ (r : List ℕ). s ++ r) (drop-of-length-le l {i = 0 + length s} (omega arith)) ∙ append-nil s
+
 -- the kit's copy of a whole list is a patch
 pub paste-patch : (l : List ℕ) (at : ℕ) (s : List ℕ) (n : ℕ) → n ≡ length s → paste l at s n ≡ patch l at s
 paste-patch l at s n e = rw (e, take-length s) (append-assoc (take at l) s (drop (at + length s) l))
@@ -179,6 +183,14 @@ bytes-part a n h = bytes-take n (bytes-drop a h)
 
 pub bytes-patch : (at : ℕ) {l s : List ℕ} → Bytes l → Bytes s → Bytes (patch l at s)
 bytes-patch at {l} {s} hl hs = bytes-append (bytes-take at hl) (bytes-append hs (bytes-drop (at + length s) hl))
+
+-- ---- a part of a common front
+
+pub part-low : (x y : List ℕ) (n : ℕ) → part x 0 n ≡ part y 0 n → (b m : ℕ) → b + m ≤ n → part x b m ≡ part y b m
+part-low x y n e b m h =
+    let z : 0 + b ≡ b = omega arith in
+    let p : (l : List ℕ) → part (part l 0 n) b m ≡ part l b m = λ l. part-part l 0 n b m h ∙ ap (λ (k : ℕ). part l k m) z in
+    sym (p x) ∙ ap (λ (l : List ℕ). part l b m) e ∙ p y
 
 -- ---- a front and a rest of one byte repeated
 

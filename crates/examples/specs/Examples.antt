@@ -1,0 +1,108 @@
+-- Document 01, "Bench examples": those marked * "are proved together, as a single table with one claim over all its rows".
+--
+-- A row has what the definitions give, and the numbers of the paper. The claim is that they are the same, in every row.
+use Prim.Native.Nat.{ℕ, _-_, _*_}
+use mathlib.Core.Bool.{Bool, true, _&&_}
+use mathlib.Core.List.{List, [], _∷_}
+use mathlib.Core.Path.{_≡_, refl}
+use lib.ListN.{length, replicate}
+use Rattle.octets.specs.Parts.{same}
+use Rattle.model.specs.declared.FormatAnswer.{FormatAnswer}
+use Rattle.model.specs.declared.FormatAnswer.the-variants as format
+use Rattle.model.specs.declared.Layout.{Layout}
+use Rattle.model.specs.declared.Phase.the-variants.{Filling}
+use Rattle.model.specs.declared.State.{State}
+use Rattle.model.specs.declared.WriteAnswer.{WriteAnswer}
+use Rattle.model.specs.declared.WriteAnswer.the-variants as write
+use Rattle.model.specs.Refusal.{numberOf, valuesOf}
+use Rattle.model.specs.Layout.{widthOk, layoutOk, entrySize, perSector, entryCount, sectionSize, tagArea, dataAt, tagByte, needed}
+use Rattle.model.specs.Section.{emptySection}
+use Rattle.model.specs.Journal.{sectionFor}
+use Rattle.model.specs.State.{stateOk, stagingOk}
+use Rattle.model.specs.Tag.{tagOf}
+use Rattle.model.specs.Format.{formatOf}
+use Rattle.model.specs.Write.{writeOf}
+use Rattle.tree.specs.Places.{levelsAbove, levelsOf, hashBlocksOf, digestAt}
+use Rattle.tree.specs.Build.{buildOf}
+
+-- ---- what the rows are about
+
+-- "r 0, T 32, N 16, S 1", with P as given
+abbrev bench : ℕ → Layout
+bench p = record { reserved = 0; shift = 4; width = 32; sections = 1; provided = p }
+
+-- tags of T bytes on runs of 2 ^ n sectors
+abbrev tagged : ℕ → Layout
+tagged n = record { reserved = 0; shift = n; width = 32; sections = 1; provided = 1 }
+
+abbrev journalled : ℕ → Layout
+journalled s = record { reserved = 0; shift = 4; width = 32; sections = s; provided = 16 }
+
+-- a refusal's number and values; nothing where the call is taken
+abbrev formatRefusal : FormatAnswer → List ℕ
+formatRefusal format.Formatted = []
+formatRefusal (format.Refused r) = numberOf r ∷ valuesOf r
+
+abbrev writeRefusal : WriteAnswer → List ℕ
+writeRefusal write.Taken = []
+writeRefusal (write.Refused r) = numberOf r ∷ valuesOf r
+
+abbrev opened : State
+opened = record { layout = bench 16; phase = Filling; count = 0; id = 1 }
+
+-- the hash blocks of the tree over n data blocks
+abbrev hashBlocks : ℕ → ℕ
+hashBlocks n = hashBlocksOf (levelsOf n) n
+
+-- ---- the table
+
+pub record Row : Type 0 where
+  pub given : List ℕ
+  pub paper : List ℕ
+
+abbrev table : List Row
+table =
+    -- T 8: entry 24 bytes, 20 a sector, E 160, M 168.
+    record { given = entrySize 8 ∷ perSector 8 ∷ entryCount 8 ∷ sectionSize 8 ∷ []; paper = 24 ∷ 20 ∷ 160 ∷ 168 ∷ [] } ∷
+    -- T 16: 32, 15, 120, 128.
+    record { given = entrySize 16 ∷ perSector 16 ∷ entryCount 16 ∷ sectionSize 16 ∷ []; paper = 32 ∷ 15 ∷ 120 ∷ 128 ∷ [] } ∷
+    -- T 32: 48, 10, 80, 88.
+    record { given = entrySize 32 ∷ perSector 32 ∷ entryCount 32 ∷ sectionSize 32 ∷ []; paper = 48 ∷ 10 ∷ 80 ∷ 88 ∷ [] } ∷
+    -- T 32: N 128 gives A 8; N 256 gives A 16.
+    record { given = tagArea (tagged 7) ∷ tagArea (tagged 8) ∷ []; paper = 8 ∷ 16 ∷ [] } ∷
+    -- r 0, T 32, N 16, S 1, P 16: 120 sectors. A volume of 119 is refused 5.
+    record {
+      given = needed (bench 16) ∷ formatRefusal (formatOf (tagOf 32) (bench 16) (replicate (119 * 512) 0) .answer);
+      paper = 120 ∷ 5 ∷ 120 ∷ [];
+    } ∷
+    -- There, sector 5 lies at 109, its tag at byte 49,312. Sector 16 is refused 6.
+    record {
+      given = dataAt (bench 16) 5 ∷ tagByte (bench 16) 5 ∷ writeRefusal (writeOf (tagOf 32) opened (emptySection 32) 16 (replicate 512 0) .answer);
+      paper = 109 ∷ 49312 ∷ 6 ∷ [];
+    } ∷
+    -- P 20: 132 sectors. Sector 17 lies at 129, tag at byte 61,472.
+    record { given = needed (bench 20) ∷ dataAt (bench 20) 17 ∷ tagByte (bench 20) 17 ∷ []; paper = 132 ∷ 129 ∷ 61472 ∷ [] } ∷
+    -- S 3: ids 1, 3, 4 go to sections 0, 2, 0.
+    record { given = sectionFor (journalled 3) 1 ∷ sectionFor (journalled 3) 3 ∷ sectionFor (journalled 3) 4 ∷ []; paper = 0 ∷ 2 ∷ 0 ∷ [] } ∷
+    -- 128, 129, 16,384 data blocks: 1, 3, 129 hash blocks. 0 and 16,385 are refused 2.
+    record {
+      given =
+          hashBlocks 128 ∷ hashBlocks 129 ∷ hashBlocks 16384 ∷ buildOf 0 [] [] [] .refused .number ∷ buildOf 16385 [] [] [] .refused .number ∷ [];
+      paper = 1 ∷ 3 ∷ 129 ∷ 2 ∷ 2 ∷ [];
+    } ∷
+    -- 129 blocks: the digest of block 128 stands at tree byte 8,192.
+    record { given = digestAt (levelsOf 129 - 1) 129 128 ∷ []; paper = 8192 ∷ [] } ∷
+    []
+
+abbrev pub rowCount : ℕ
+rowCount = length table
+
+-- every row's two sides are the same
+abbrev pub allSame : List Row → Bool
+allSame [] = true
+allSame (row ∷ rows) = same (row .given) (row .paper) && allSame rows
+
+-- THE CLAIM
+pub starred-examples : allSame table ≡ true
+unfolding layoutOk widthOk formatOf writeOf stateOk stagingOk emptySection levelsAbove levelsOf hashBlocksOf buildOf
+starred-examples = refl

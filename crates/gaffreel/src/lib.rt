@@ -1,0 +1,11 @@
+// The C interface: what a firmware links (include/gaffreel.h). Each module holds the exported calls of one part.
+//
+// A call takes numbers and byte slices, and answers a number: 0 where it was carried out, else that of a refusal in
+// document 01, "Refusal numbers". After a refusal every buffer is as it was.
+pub mod sha256;
+
+// The number of a call that was carried out.
+pub(crate) const DONE: u32 = 0;
+
+// The number where a buffer has a wrong length.
+pub(crate) const WRONG_LENGTH: u32 = 1;

@@ -1,0 +1,239 @@
+-- DEMAND 3, for every list of calls and cuts, over any tag function.
+use Prim.Native.Nat.{ℕ, zero, suc, _+_, _*_, _/_, _%_, _≤_, _<_}
+use mathlib.Core.Bool.{Bool, true, false, not, _&&_}
+use mathlib.Core.Path.{_≡_, refl, sym, ap, _∙_, subst}
+use mathlib.Core.List.{List, [], _∷_, _++_}
+use native.Mathlib.Omega.{arith}
+use lib.Seq.{length-take-le}
+use lib.ListN.{length, replicate}
+use lib.Dec.{leb, eqb}
+use borrow.Author.Tests.{eqb-true, eq-eqb, lt-leb}
+use Rattle.octets.specs.Numbers.{le}
+use Rattle.digest.specs.Sha256.{sha256}
+use Rattle.digest.specs.Sha256.Promise.{length-sha256}
+use Rattle.octets.specs.Choice.{pick, firstMet}
+use Rattle.octets.proofs.Choice.{passes}
+use Rattle.octets.specs.Parts.{same}
+use Rattle.octets.specs.Sectors.{sectorAt}
+use Rattle.octets.proofs.Parts.{eq-same}
+use Rattle.octets.proofs.Sectors.{sector-part}
+use Rattle.model.specs.Layout.{sectionSize, sectionAt, dataAt}
+use Rattle.model.specs.Section.{idOf, entryOf, greatestIn}
+use Rattle.model.specs.Journal.{dueIds, sectionOf, wholeIds, ordered, replayIn, replay}
+use Rattle.model.specs.State.{isFilling, passed}
+use Rattle.model.specs.Tag.{Tag, tagOf, tagAt}
+use Rattle.model.specs.Read.{newest, staged, readRows, readOf}
+use Rattle.model.specs.declared.ReadAnswer.the-variants.{Found}
+use Rattle.model.specs.Ledger.{start, lastFor, Ledger, note, noteAll}
+use Rattle.model.specs.World.{Event, Live, off, on, World, aCut, anOpen, aWrite, aFlush, aStep, aRead, begin, unmoved, play, tell, next, noted, after, transcript}
+use Rattle.model.specs.Format.{formatOf}
+use Rattle.model.specs.Demand3.{Agrees, Demand3, Demand3Sha256}
+use Rattle.model.proofs.Formats.{Fresh, format-layout, format-fresh}
+use Rattle.model.proofs.Replays.{lastFor-append}
+use Rattle.model.proofs.Sections.{per-pos}
+use Rattle.model.proofs.Journals.{due-le, top-least, writeOfEntry, batchOf, top-le, whole-le}
+use Rattle.model.proofs.Addresses.{size-bound, and-both, ranged, section-low}
+use Rattle.model.proofs.Homes.{Home}
+use Rattle.model.proofs.Invariant.{Setting, low-kept, stateAt, Disk, AtFilling, Lives, stopped}
+use Rattle.model.proofs.Cuts.{and-false, cuts}
+use Rattle.model.proofs.Steps.{Inv, never, Fills, FillsLive, sound, sound-volume, sound-staging, step-keeps}
+use Rattle.model.proofs.Batches.{Filled, it, filled, write-keeps, flush-keeps}
+use Rattle.model.proofs.Opens.{open-keeps}
+use Rattle.model.specs.declared.Layout.{Layout}
+use Rattle.model.specs.declared.Phase.{Phase}
+use Rattle.model.specs.declared.Phase.the-variants.{Filling, Committing, WritingBack, Recovering}
+use Rattle.model.specs.declared.State.{State}
+
+ordered-none : (n : ℕ) (ids : ℕ → ℕ) → ((k : ℕ) → k < n → ids k ≡ 0) → ordered n ids ≡ []
+ordered-none zero ids h = refl
+ordered-none (suc n) ids h = rw (eq-eqb (ids n) 0 (h n (omega arith))) (ordered-none n ids (λ k l. h k (omega arith)))
+
+newest-last : (t : ℕ) (st : List ℕ) (n s : ℕ) (d : List ℕ) → newest t st n s d ≡ lastFor (batchOf t st n) s d
+newest-last t st zero s d = refl
+newest-last t st (suc n) s d =
+    ap (pick (eqb (entryOf t st n .sector) s) (entryOf t st n .bytes)) (newest-last t st n s d)
+    ∙ sym (lastFor-append (batchOf t st n) (writeOfEntry (entryOf t st n) ∷ []) s d)
+
+-- what holds at the start, of a volume that format left
+module _ (tag : Tag) (g : Layout) (sz : (s : ℕ) (b : List ℕ) → length (tag s b) ≡ g .width) (v₀ : List ℕ) (F : Fresh tag g v₀) where
+  whole-sectors : length v₀ ≡ length v₀ / 512 * 512
+  whole-sectors =
+      let z = and-both (eqb (length v₀ % 512) 0) (leb (length v₀) (65536 * 512)) (F .wholes) in
+      omega (arith, eqb-true (length v₀ % 512) 0 (z .0))
+
+  pub setting : Setting tag g v₀
+  setting =
+      record {
+        layout = F .layout;
+        ranged = ranged g (F .layout);
+        some = per-pos (g .width) (omega (arith, size-bound (ranged g (F .layout) .t)));
+        tags = sz;
+        loan = F .wholes;
+        room = F .room;
+        super = F .super;
+        sectors = length v₀ / 512;
+        whole = whole-sectors;
+      }
+
+-- ---- the start: nothing is to be replayed, and every sector is home with zeros
+
+module _ (tag : Tag) (g : Layout) (v₀ : List ℕ) (X : Setting tag g v₀) (F : Fresh tag g v₀) where
+  zero-id : idOf (replicate 512 0) ≡ 0
+  zero-id = refl
+
+  zero-sector : (k j : ℕ) → k < g .sections → j < sectionSize (g .width) → idOf (sectorAt (sectionOf g v₀ k) j) ≡ 0
+  zero-sector k j h l =
+      ap idOf (sector-part v₀ (sectionAt g k) (sectionSize (g .width)) j l
+      ∙ F .journal (sectionAt g k + j) (omega arith) (omega (arith, section-low g (X .ranged) k h)))
+      ∙ zero-id
+
+  zero-top : (k : ℕ) → k < g .sections → greatestIn (g .width) (sectionOf g v₀ k) ≤ 0
+  zero-top k h = top-le (g .width) (sectionOf g v₀ k) 0 (λ j l. omega (arith, zero-sector k j h l))
+
+  zero-ids : (k : ℕ) → k < g .sections → wholeIds g v₀ k ≡ 0
+  zero-ids k h = omega (arith, whole-le (g .width) (sectionOf g v₀ k), zero-top k h)
+
+  no-replay : replay g v₀ ≡ []
+  unfolding replay
+  no-replay = ap (replayIn g v₀) (ordered-none (g .sections) (dueIds g v₀) (λ k h. omega (arith, due-le g v₀ k, zero-ids k h)))
+
+  pub starts : Inv tag g v₀ X (begin v₀) start
+  starts =
+      record {
+        lives = stopped (record {
+          sized = refl;
+          kept = λ b o. refl;
+          places = λ k h z. absurd (z (zero-ids k h));
+          window = λ k h z. absurd (z (zero-ids k h));
+          top = omega (arith, top-least g v₀ 0 zero-top);
+          goods = λ k h z. absurd (z (zero-ids k h));
+          durable = rw no-replay
+              (record { unnamed = λ s h e. (F .zero-data s h, F .tags s h); named = λ s h e d. never e });
+        }) refl refl;
+        fills = λ q. never q;
+      }
+
+-- ---- every event keeps the invariant
+
+module _ (tag : Tag) (g : Layout) (v₀ : List ℕ) (X : Setting tag g v₀) where
+  abbrev pub I : World → Ledger → Type 0
+  I = Inv tag g v₀ X
+
+  -- ---- an event
+
+  abbrev pub M : ℕ
+  M = sectionSize (g .width)
+
+  abbrev pub EventLeads : List ℕ → Ledger → Live → Event → Type 0
+  EventLeads v l x e = I (play tag (g .reserved) v x e) (note M l (tell tag (g .reserved) v x e))
+
+  kept-as : (v : List ℕ) (l : Ledger) (x : Live) → Lives tag g v₀ v l x → I (unmoved v x) l
+  kept-as v l x A = record { lives = A; fills = λ q. never q }
+
+  opens : (v : List ℕ) (l : Ledger) (st : List ℕ) (x : Live) → Lives tag g v₀ v l x → EventLeads v l x (anOpen st)
+  opens v l st off (stopped D b d) = open-keeps tag g v₀ X v l D st b d
+  opens v l st (on s y) A = kept-as v l (on s y) A
+
+  reading : (v : List ℕ) (l : Ledger) (n : ℕ) (loan : List ℕ) (x : Live) → Lives tag g v₀ v l x → EventLeads v l x (aRead n loan)
+  reading v l n loan off A = kept-as v l off A
+  reading v l n loan (on s st) A = kept-as v l (on s st) A
+
+  pub plays : (v : List ℕ) (l : Ledger) (ev : Event) (x : Live) → Lives tag g v₀ v l x → EventLeads v l x ev
+  plays v l aCut x A = record { lives = stopped (cuts tag g v₀ X v l x A) refl refl; fills = λ q. never q }
+  plays v l (anOpen st) x A = opens v l st x A
+  plays v l (aWrite n b) off A = kept-as v l off A
+  plays v l (aWrite n b) (on s st) A = write-keeps tag g v₀ X v l s st n b A
+  plays v l aFlush off A = kept-as v l off A
+  plays v l aFlush (on s st) A = flush-keeps tag g v₀ X v l s st A
+  plays v l aStep off A = kept-as v l off A
+  plays v l aStep (on s st) A = step-keeps tag g v₀ X v l s st A
+  plays v l (aRead n b) x A = reading v l n b x A
+
+  -- ---- a list of events: the world and the ledger, side by side
+
+  pub lasts : (w : World) (l : Ledger) (es : List Event) → I w l → I (after tag (g .reserved) w es) (noteAll M l (transcript tag (g .reserved) w es))
+  unfolding after transcript
+  lasts w l [] J = J
+  lasts w l (ev ∷ es) J =
+      lasts (next tag (g .reserved) w ev) (note M l (noted tag (g .reserved) w ev)) es (plays (w .medium) l ev (w .live) (J .lives))
+
+  -- ---- what a quiet world agrees with
+
+  read-passes : (v : List ℕ) (l : Ledger) (n m : ℕ) (st : List ℕ) → Disk tag g v₀ v (l .contents) → AtFilling tag g v₀ v l n m st
+      → (k : ℕ) (loan : List ℕ) → length loan ≡ 512 → k < g .provided → firstMet (readRows tag (stateAt g n m Filling) v st k loan) passed ≡ passed
+  read-passes v l n m st D A k loan e h =
+      passes (readRows tag (stateAt g n m Filling) v st k loan) passed (
+        rw (
+          sound tag g v₀ X n m Filling (A .staged .count) (omega (arith, A .next)) refl,
+          sound-volume tag g v₀ X v n m Filling (D .sized) refl,
+          sound-staging tag g v₀ X st (A .staged .size),
+          eq-eqb (length loan) 512 e,
+        ),
+        (refl, (lt-leb (g .provided) k h, (fit, tt))),
+      )
+    where
+      same-tag : same (tagAt g v k) (tag k (sectorAt v (dataAt g k))) ≡ true
+      same-tag = rw (A .clean k h .0, A .clean k h .1) (eq-same (tag k (l .contents k)) (tag k (l .contents k)) refl)
+
+      fit : not (staged (g .width) st n k) && not (same (tagAt g v k) (tag k (sectorAt v (dataAt g k)))) ≡ false
+      fit = ap (λ (t : Bool). not (staged (g .width) st n k) && not t) same-tag ∙ and-false (not (staged (g .width) st n k))
+
+  read-gives : (v : List ℕ) (l : Ledger) (n m : ℕ) (st : List ℕ) → Disk tag g v₀ v (l .contents) → AtFilling tag g v₀ v l n m st
+      → (k : ℕ) (loan : List ℕ) → length loan ≡ 512 → k < g .provided
+      → readOf tag (stateAt g n m Filling) v st k loan ≡ record { answer = Found; sector = lastFor (l .batch) k (l .contents k) }
+  unfolding readOf
+  read-gives v l n m st D A k loan e h =
+      rw (read-passes v l n m st D A k loan e h)
+      (ap (λ (b : List ℕ). record { answer = Found; sector = b }) (newest-last (g .width) st n k (sectorAt v (dataAt g k)) ∙ rw (A .batch, A .clean k h .0)))
+
+  settled-filling : (v : List ℕ) (l : Ledger) (s : State) (st : List ℕ) → Lives tag g v₀ v l (on s st) → FillsLive (on s st)
+      → Filled tag g v₀ X v l s st
+  settled-filling v l s st A f = filled tag g v₀ X v l s st A (go (s .phase) f)
+    where
+      go : (p : Phase) → Fills p → isFilling p ≡ true
+      go Filling f = refl
+      go (Committing j) f = absurd f
+      go (WritingBack i h) f = absurd f
+      go (Recovering k) f = absurd f
+
+  reads-from : (v : List ℕ) (l : Ledger) (s : State) (st : List ℕ) → Filled tag g v₀ X v l s st
+      → (k : ℕ) (loan : List ℕ) → length loan ≡ 512 → k < g .provided
+      → readOf tag s v st k loan ≡ record { answer = Found; sector = lastFor (l .batch) k (l .contents k) }
+  reads-from v l s st (it n m _ D A) = read-gives v l n m st D A
+
+  homes-from : (v : List ℕ) (l : Ledger) (s : State) (st : List ℕ) → Filled tag g v₀ X v l s st
+      → Disk tag g v₀ v (l .contents) × ((k : ℕ) → k < g .provided → Home g tag v k (l .contents k))
+  homes-from v l s st (it n m _ D A) = (D, A .clean)
+
+  all-home : (v : List ℕ) (l : Ledger) (x : Live) → Lives tag g v₀ v l x → FillsLive x
+      → Disk tag g v₀ v (l .contents) × ((k : ℕ) → k < g .provided → Home g tag v k (l .contents k))
+  all-home v l off A f = absurd f
+  all-home v l (on s st) A f = homes-from v l s st (settled-filling v l s st A f)
+
+  agrees : (w : World) (l : Ledger) → I w l → w .settled ≡ true → Agrees tag g v₀ w l
+  agrees w l J q =
+      let a = all-home (w .medium) l (w .live) (J .lives) (J .fills q) in
+      record {
+        home = λ s h. a .1 s h .0;
+        fits = λ s h. a .1 s h .1;
+        reads = λ s st loan n e k h.
+            reads-from (w .medium) l s st
+            (settled-filling (w .medium) l s st
+            (subst (Lives tag g v₀ (w .medium) l) e (J .lives)) (subst FillsLive e (J .fills q))) n loan k h;
+        kept = λ a′ h. low-kept tag g v₀ (X .ranged) (w .medium) (l .contents) (a .0) (a′ * 512) 512 (omega arith);
+      }
+
+-- DEMAND 3
+pub demand3 : Demand3
+demand3 tag g sz v e es q =
+    let F : Fresh tag g (formatOf tag g v .volume) = format-fresh tag g v sz e in
+    let v₀ : List ℕ = formatOf tag g v .volume in
+    let X : Setting tag g (formatOf tag g v .volume) = setting tag g sz (formatOf tag g v .volume) F in
+    agrees tag g v₀ X _ _ (lasts tag g v₀ X (begin v₀) start es (starts tag g v₀ X F)) q
+
+-- document 01's tag has T bytes, for every T in range
+tag-length : (t : ℕ) → t ≤ 32 → (s : ℕ) (b : List ℕ) → length (tagOf t s b) ≡ t
+tag-length t h s b = length-take-le t (sha256 (le 8 s ++ b)) (rw (length-sha256 (le 8 s ++ b)) h)
+
+pub demand3-sha256 : Demand3Sha256
+demand3-sha256 g v e = demand3 (tagOf (g .width)) g (tag-length (g .width) (size-bound (ranged g (format-layout (tagOf (g .width)) g v e) .t))) v e

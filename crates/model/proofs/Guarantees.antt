@@ -1,0 +1,215 @@
+-- What holds beside demand 3: each fact from the invariant that holds after every list of calls and cuts.
+use Prim.Native.Nat.{ℕ, zero, suc, _+_, _*_, _≤_, _<_}
+use mathlib.Core.Bool.{Bool, true, false}
+use mathlib.Core.Path.{_≡_, refl, sym, ap, _∙_, subst}
+use mathlib.Core.Logic.{_≢_, inr}
+use mathlib.Core.List.{List, _∷_}
+use native.Mathlib.Omega.{arith}
+use native.Mathlib.Decide.{decLt, ℕ-discrete}
+use lib.ListN.{length, replicate}
+use lib.Dec.{eqb}
+use borrow.Author.Tests.{eq-eqb, ne-eqb, lt-ltb, le-ltb}
+use Rattle.model.specs.declared.Layout.{Layout}
+use Rattle.model.specs.declared.OpenAnswer.the-variants.{Opened, Refused}
+use Rattle.model.specs.declared.Refusal.the-variants.{Malformed}
+use Rattle.model.specs.declared.Phase.{Phase}
+use Rattle.model.specs.declared.Phase.the-variants.{Committing, WritingBack, Recovering}
+use Rattle.model.specs.declared.State.{State}
+use Rattle.model.specs.Layout.{sectionSize, needed}
+use Rattle.model.specs.Section.{Entry, entryOf, emptySection}
+use Rattle.model.specs.Journal.{greatestId, replay}
+use Rattle.model.specs.Tag.{Tag}
+use Rattle.model.specs.Store.{storesOf}
+use Rattle.model.specs.State.{stagingOk, passed}
+use Rattle.model.specs.Step.{StepResult, commitStep, homeStep, phaseStep, stepOf}
+use Rattle.model.specs.Ledger.{Ledger, start, entersNext}
+use Rattle.model.specs.World.{off, on, World, stepTaken, stepAcknowledges, stepSettles, openTaken, anOpen, aStep, begin, next, after}
+use Rattle.model.proofs.Addresses.{base-room, data-room, tag-room, tag-inside, tag-sector}
+use Rattle.model.proofs.Plans.{at-get}
+use Rattle.model.proofs.Invariant.{Setting, stateAt, Disk, AtRecover, Lives, stopped, filling, committing, writingBack, recovering}
+use Rattle.model.specs.Open.{openedState, OpenResult, openBy, openOf}
+use Rattle.model.proofs.Steps.{live-runs, replay-stays, recover-next}
+use Rattle.model.proofs.Opens.{open-runs, open-refused}
+use Rattle.model.proofs.Replays.{Which, isTrue, isFalse, which}
+use Rattle.model.specs.Format.{formatOf}
+use Rattle.model.specs.Guarantees.{Outside, Guarantees, Guaranteed}
+use Rattle.model.proofs.Cuts.{cuts}
+use Rattle.model.proofs.Volumes.{part-bytes}
+use Rattle.model.proofs.Formats.{Fresh, format-fresh}
+use Rattle.model.proofs.Demand3.{setting, I, starts, plays, lasts}
+
+staging-ok : (g : Layout) (st : List ℕ) → length st ≡ sectionSize (g .width) * 512 → stagingOk g st ≡ true
+unfolding stagingOk
+staging-ok g st e = eq-eqb (length st) (sectionSize (g .width) * 512) e
+
+eqb-swap : (a b : ℕ) → eqb a b ≡ eqb b a
+eqb-swap a b = go (ℕ-discrete a b)
+  where
+    go : Dec (a ≡ b) → eqb a b ≡ eqb b a
+    go (yes e) = eq-eqb a b e ∙ sym (eq-eqb b a (sym e))
+    go (no e) = ne-eqb a b e ∙ sym (ne-eqb b a (λ q. e (sym q)))
+
+-- ---- what a step answers
+
+home-taken : (s : State) (v st : List ℕ) (e : Entry) (h : ℕ) (last : Bool) (p : Phase) (left : List ℕ)
+    → (stepTaken (homeStep s v st e h last p left .answer) ≡ true) × (stepAcknowledges (homeStep s v st e h last p left .answer) ≡ false)
+unfolding homeStep
+home-taken s v st e h true p left = (refl, refl)
+home-taken s v st e h false p left = (refl, refl)
+
+home-settles : (s : State) (v st : List ℕ) (e : Entry) (h : ℕ) (last : Bool) (p : Phase) (left : List ℕ)
+    → stepSettles (homeStep s v st e h last p left .answer) ≡ last
+unfolding homeStep
+home-settles s v st e h true p left = refl
+home-settles s v st e h false p left = refl
+
+abbrev Answers : Ledger → StepResult → Type 0
+Answers l o = (stepTaken (o .answer) ≡ true) × (stepAcknowledges (o .answer) ≡ entersNext l)
+
+home-answers : (l : Ledger) → l .due ≡ 0 → (s : State) (v st : List ℕ) (e : Entry) (h : ℕ) (last : Bool) (p : Phase) (left : List ℕ)
+    → Answers l (homeStep s v st e h last p left)
+home-answers l d s v st e h last p left =
+    let a = home-taken s v st e h last p left in
+    (a .0, a .1 ∙ sym (ne-eqb (l .due) 1 (omega arith)))
+
+commit-answers : (l : Ledger) (s : State) (v st : List ℕ) (j : ℕ) → l .due + j ≡ sectionSize (s .layout .width) → j < sectionSize (s .layout .width)
+    → Dec (j + 1 < sectionSize (s .layout .width)) → Answers l (commitStep s v st j)
+unfolding commitStep
+commit-answers l s v st j d p (yes q) = rw (lt-ltb (j + 1) (sectionSize (s .layout .width)) q) (refl, sym (ne-eqb (l .due) 1 (omega arith)))
+commit-answers l s v st j d p (no q) = rw (le-ltb (j + 1) (sectionSize (s .layout .width)) (omega arith)) (refl, sym (eq-eqb (l .due) 1 (omega arith)))
+
+module _ (tag : Tag) (g : Layout) (v₀ : List ℕ) where
+  phase-answers : (v : List ℕ) (l : Ledger) (s : State) (st : List ℕ) → Lives tag g v₀ v l (on s st) → Answers l (phaseStep s v st (s .phase))
+  phase-answers v l s st (filling n m _ D A) = (refl, sym (ne-eqb (l .due) 1 (omega (arith, A .due))))
+  phase-answers v l s st (committing n m j _ p A) = commit-answers l (stateAt g n m (Committing j)) v st j (A .due) p (decLt (j + 1) (sectionSize (g .width)))
+  phase-answers v l s st (writingBack n m i h _ D A) = home-answers l (A .due) (stateAt g n m (WritingBack i h)) v st (entryOf (g .width) st i) h _ _ (emptySection (g .width))
+  phase-answers v l s st (recovering m k _ D A) = rw (at-get g (A .spot)) (home-answers l (A .due) (stateAt g 0 m (Recovering k)) v st _ _ _ _ st)
+
+-- ---- the invariant's facts, after a list of events
+
+module _ (tag : Tag) (g : Layout) (v₀ : List ℕ) (X : Setting tag g v₀) where
+  abbrev Keeps : World → Ledger → Type 0
+  Keeps = I tag g v₀ X
+
+  runs : (v : List ℕ) (l : Ledger) (s : State) (st : List ℕ) → Lives tag g v₀ v l (on s st) → stepOf s v st ≡ phaseStep s v st (s .phase)
+  runs = live-runs tag g v₀ X
+
+  opened : (v : List ℕ) (l : Ledger) → Disk tag g v₀ v (l .contents) → (st : List ℕ) → length st ≡ sectionSize (g .width) * 512
+      → openOf tag (g .reserved) v st ≡ openBy g v st passed
+  opened v l D st e =
+      open-runs tag g v₀ X v l D st
+      (staging-ok g st e)
+
+  answers : (v : List ℕ) (l : Ledger) (s : State) (st : List ℕ) → Lives tag g v₀ v l (on s st) → Answers l (stepOf s v st)
+  answers v l s st A = subst (Answers l) (sym (runs v l s st A)) (phase-answers tag g v₀ v l s st A)
+
+  opens-taken : (v : List ℕ) (l : Ledger) → Lives tag g v₀ v l off → (st : List ℕ) → length st ≡ sectionSize (g .width) * 512
+      → openTaken (openOf tag (g .reserved) v st .answer) ≡ true
+  opens-taken v l (stopped D b d) st e = rw (opened v l D st e)
+
+  -- ---- the stores of a recovery, one step each
+
+  abbrev r : ℕ
+  r = g .reserved
+
+  recover-settles : (v : List ℕ) (l : Ledger) (m k : ℕ) (st : List ℕ) → Disk tag g v₀ v (l .contents) → AtRecover tag g v₀ v l m k st
+      → stepSettles (stepOf (stateAt g 0 m (Recovering k)) v st .answer) ≡ eqb (k + 1) (storesOf g (replay g v))
+  recover-settles v l m k st D A =
+      rw (runs v l (stateAt g 0 m (Recovering k)) st (recovering m k st D A), at-get g (A .spot)) (home-settles (stateAt g 0 m (Recovering k)) v st _ _ _ _ st)
+
+  back : (v : List ℕ) (l : Ledger) (m k : ℕ) (st : List ℕ) → Lives tag g v₀ v l (on (stateAt g 0 m (Recovering k)) st)
+      → Disk tag g v₀ v (l .contents) × AtRecover tag g v₀ v l m k st
+  back v l m k st (recovering _ _ _ D A) = (D, A)
+
+  -- store k is made next: as many steps settle as there are stores from there
+  settles : (j : ℕ) (w : World) (l : Ledger) (m k : ℕ) (st : List ℕ) → w .live ≡ on (stateAt g 0 m (Recovering k)) st → Lives tag g v₀ (w .medium) l (w .live)
+      → k + suc j ≤ storesOf g (replay g (w .medium))
+      → after tag r w (replicate (suc j) aStep) .settled ≡ eqb (k + suc j) (storesOf g (replay g (w .medium)))
+  unfolding after
+  settles zero w l m k st e A h =
+      let B = back (w .medium) l m k st (subst (Lives tag g v₀ (w .medium) l) e A) in
+      let n : k + suc zero ≡ k + 1 = refl in
+      rw (e, n) (recover-settles (w .medium) l m k st (B .0) (B .1))
+  settles (suc j) w l m k st e A h =
+      let B = back (w .medium) l m k st (subst (Lives tag g v₀ (w .medium) l) e A) in
+      let s : State = stateAt g 0 m (Recovering k) in
+      let one-step = plays tag g v₀ X (w .medium) l aStep (w .live) A in
+      let same : storesOf g (replay g (next tag r w aStep .medium)) ≡ storesOf g (replay g (w .medium)) =
+      rw (e, runs (w .medium) l s st (recovering m k st (B .0) (B .1)))
+      (ap (storesOf g) (replay-stays tag g v₀ X
+      (w .medium) l (B .0) m k st (B .1))) in
+      let live : next tag r w aStep .live ≡ on (stateAt g 0 m (Recovering (k + 1))) st =
+      rw (e, runs (w .medium) l s st (recovering m k st (B .0) (B .1)))
+      (recover-next tag g v₀ X
+      (w .medium) l (B .0) m k st (B .1) (omega arith)) in
+      let sum : k + 1 + suc j ≡ k + suc (suc j) = omega arith in
+      settles j (next tag r w aStep) _ m (k + 1) st live (one-step .lives) (rw (same, sum) h)
+      ∙ rw (same, sum)
+
+  -- ---- open's number
+
+  opened-state : (v : List ℕ) → storesOf g (replay g v) ≢ 0 → openedState g v ≡ stateAt g 0 (greatestId g v + 1) (Recovering 0)
+  opened-state v z = rw (ne-eqb (storesOf g (replay g v)) 0 z)
+
+  counted : (w : World) (l : Ledger) (st : List ℕ) → w .live ≡ off → Lives tag g v₀ (w .medium) l (w .live)
+      → openOf tag r (w .medium) st ≡ openBy g (w .medium) st passed
+      → (k : ℕ) → k ≤ storesOf g (replay g (w .medium)) → after tag r w (anOpen st ∷ replicate k aStep) .settled ≡ eqb k (storesOf g (replay g (w .medium)))
+  unfolding after
+  counted w l st e A o zero h = rw (e, o) (eqb-swap (storesOf g (replay g (w .medium))) 0)
+  counted w l st e A o (suc j) h =
+      let opening = plays tag g v₀ X (w .medium) l (anOpen st) (w .live) A in
+      let live : next tag r w (anOpen st) .live ≡ on (stateAt g 0 (greatestId g (w .medium) + 1) (Recovering 0)) (emptySection (g .width)) =
+      rw (e, o) (ap (λ (s : State). on s (emptySection (g .width))) (opened-state (w .medium) (omega arith))) in
+      let same : next tag r w (anOpen st) .medium ≡ w .medium = rw e in
+      let sum : 0 + suc j ≡ suc j = omega arith in
+      settles j (next tag r w (anOpen st)) _ (greatestId g (w .medium) + 1) 0 (emptySection (g .width)) live (opening .lives) (rw (same, sum) h)
+      ∙ rw (same, sum)
+
+  taken-runs : (v : List ℕ) (l : Ledger) → Lives tag g v₀ v l off → (st : List ℕ) (s : State) (n : ℕ) → openOf tag r v st .answer ≡ Opened s n
+      → (openOf tag r v st ≡ openBy g v st passed) × (n ≡ storesOf g (replay g v))
+  taken-runs v l (stopped D b d) st s n e = go (which (stagingOk g st))
+    where
+      go : Which (stagingOk g st) → (openOf tag r v st ≡ openBy g v st passed) × (n ≡ storesOf g (replay g v))
+      go (isTrue t) =
+          let o : openOf tag r v st ≡ openBy g v st passed =
+          open-runs tag g v₀ X v l D st t in
+          let a : Opened s n ≡ Opened (openedState g v) (storesOf g (replay g v)) = sym e ∙ ap (λ (x : OpenResult). x .answer) o in
+          (o, cc)
+      go (isFalse f) =
+          let o : openOf tag r v st ≡ record { answer = Refused Malformed; staging = st } =
+          open-refused tag g v₀ X v l D st f in
+          let a : Opened s n ≡ Refused Malformed = sym e ∙ ap (λ (x : OpenResult). x .answer) o in
+          absurd (let z : _≡_ {A = ℕ} 0 1 = cc in omega arith)
+
+  -- ---- what no step changes
+
+  disk : (w : World) (l : Ledger) → Keeps w l → Disk tag g v₀ (w .medium) (l .contents)
+  disk w l J = cuts tag g v₀ X (w .medium) l (w .live) (J .lives)
+
+  outside-behind : (b : ℕ) → needed g * 512 ≤ b → Outside g b
+  outside-behind b h =
+      record {
+        journal = inr (omega (arith, base-room g (X .ranged)));
+        contents = λ s k. inr (omega (arith, data-room g (X .ranged) s k));
+        tags = λ s k. inr (omega (arith, tag-room g (X .ranged) s k, tag-inside g (X .ranged) s, tag-sector g (X .ranged) s));
+      }
+
+  all-hold : (w : World) (l : Ledger) → Keeps w l → Guarantees tag g v₀ w l
+  all-hold w l J =
+      record {
+        opens = λ st e h. opens-taken (w .medium) l (subst (Lives tag g v₀ (w .medium) l) e (J .lives)) st h;
+        steps = λ s st e. answers (w .medium) l s st (subst (Lives tag g v₀ (w .medium) l) e (J .lives)) .0;
+        acknowledged = λ s st e. answers (w .medium) l s st (subst (Lives tag g v₀ (w .medium) l) e (J .lives)) .1;
+        counts = λ st s n e o k h.
+            let a = taken-runs (w .medium) l (subst (Lives tag g v₀ (w .medium) l) e (J .lives)) st s n o in
+            rw (a .1) (counted w l st e (J .lives) (a .0) k (rw (a .1) at h));
+        untouched = λ b o. disk w l J .kept b o;
+        behind = λ a h. part-bytes (w .medium) v₀ (a * 512) 512 (disk w l J .sized) (λ i k. disk w l J .kept (a * 512 + i) (outside-behind (a * 512 + i) (omega arith)));
+      }
+
+pub guaranteed : Guaranteed
+guaranteed tag g sz v e es =
+    let F : Fresh tag g (formatOf tag g v .volume) = format-fresh tag g v sz e in
+    let X : Setting tag g (formatOf tag g v .volume) = setting tag g sz (formatOf tag g v .volume) F in
+    all-hold tag g (formatOf tag g v .volume) X _ _
+    (lasts tag g (formatOf tag g v .volume) X (begin (formatOf tag g v .volume)) start es (starts tag g (formatOf tag g v .volume) X F))

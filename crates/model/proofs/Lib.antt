@@ -1,0 +1,20 @@
+-- The laws, and the proof of demand 3.
+pub mod Addresses
+pub mod Volumes
+pub mod Sections
+pub mod Order
+pub mod Journals
+pub mod Replays
+pub mod Plans
+pub mod Homes
+pub mod Invariant
+pub mod Commits
+pub mod Committing
+pub mod Cuts
+pub mod Steps
+pub mod Batches
+pub mod Opens
+pub mod Formats
+pub mod Demand3
+pub mod Guarantees
+pub mod ReadBack

@@ -1,0 +1,182 @@
+-- An open keeps the invariant: of a volume that only our steps stored to, only a wrong staging loan is refused.
+use Prim.Native.Nat.{ℕ, _+_, _-_, _*_, _%_, _^_, _≤_, _<_}
+use mathlib.Core.Bool.{true, false, not, _&&_}
+use mathlib.Core.Path.{_≡_, refl, sym, ap, _∙_, subst}
+use mathlib.Core.Logic.{_≢_}
+use mathlib.Core.List.{List, [], _∷_}
+use native.Mathlib.Omega.{arith}
+use native.Mathlib.Decide.{ℕ-discrete}
+use lib.ListN.{length}
+use lib.Dec.{ltb, eqb}
+use borrow.Author.Tests.{eq-eqb, ne-eqb, le-ltb, lt-leb}
+use Rattle.octets.proofs.Choice.{passes}
+use Rattle.octets.specs.Parts.{same}
+use Rattle.octets.proofs.Numbers.{value-le}
+use Rattle.octets.proofs.Parts.{eq-same}
+use Rattle.model.specs.Layout.{sectionSize, needed, layoutOk}
+use Rattle.model.specs.Section.{allBelow, emptySection}
+use Rattle.model.specs.Journal.{greatestId, wholeIds, Replayed, replay}
+use Rattle.model.specs.Superblock.{superblockOf, layoutIn, superblockAt, superblockOk, isZero}
+use Rattle.model.specs.Store.{homeCount, storesOf}
+use Rattle.model.specs.Tag.{Tag}
+use Rattle.model.specs.State.{passed, volumeLoanOk, stagingOk}
+use Rattle.model.specs.Open.{misplaced, openRows, entriesVerdict, OpenResult, openBy, openWith, openOf}
+use Rattle.model.specs.declared.Refusal.the-variants.{Malformed}
+use Rattle.model.specs.declared.OpenAnswer.the-variants.{Refused}
+use Rattle.model.specs.Ledger.{Ledger, opened as openedNote, note}
+use Rattle.model.specs.World.{openTaken, openWorld}
+use Rattle.model.proofs.Replays.{Which, isTrue, isFalse, which, pass-replays}
+use Rattle.model.proofs.Journals.{Every, writes, all-below}
+use Rattle.model.proofs.Addresses.{size-bound, Ranged, base-room}
+use Rattle.model.proofs.Plans.{At, here, at-in, home-two}
+use Rattle.model.proofs.Invariant.{Setting, low-kept, replay-goods, Good, Disk, stopped, filling, recovering}
+use Rattle.model.proofs.Steps.{Inv, never, staged-empty}
+use Rattle.model.specs.declared.Layout.{Layout}
+
+-- ---- the superblockAt is read back
+
+module _ (g : Layout) (R : Ranged g) where
+  small : g .width < 256 ^ 2
+  small = omega (arith, size-bound (R .t))
+
+  pub super-decoded : layoutIn (g .reserved) (superblockOf g) ≡ g
+  unfolding superblockOf
+  super-decoded =
+      λ i. record {
+        reserved = g .reserved;
+        shift = g .shift;
+        width = value-le 2 (g .width) small i;
+        sections = value-le 4 (g .sections) (omega (arith, R .s-high)) i;
+        provided = value-le 8 (g .provided) (omega (arith, R .p-high)) i;
+      }
+
+  pub super-not-zero : isZero (superblockOf g) ≡ false
+  unfolding superblockOf
+  super-not-zero = refl
+
+  pub super-valid : layoutOk g ≡ true → superblockOk (g .reserved) (superblockOf g) ≡ true
+  super-valid ok =
+      subst (λ (x : Layout). _&&_ (same (superblockOf g) (superblockOf x)) (layoutOk x) ≡ true) (sym super-decoded) (rw (eq-same (superblockOf g) (superblockOf g) refl, ok))
+
+entries-pass : (tag : Tag) (g : Layout) (xs : List Replayed) → Every (λ x. Good tag g (x .entry)) xs → entriesVerdict tag g xs ≡ passed
+entries-pass tag g [] q = refl
+entries-pass tag g (x ∷ xs) q =
+    let t : same (x .entry .tag) (tag (x .entry .sector) (x .entry .bytes)) ≡ true = eq-same (x .entry .tag) (tag (x .entry .sector) (x .entry .bytes)) (q .0 .fit) in
+    rw (lt-leb (g .provided) (x .entry .sector) (q .0 .low), t) (entries-pass tag g xs (q .1))
+
+module _ (tag : Tag) (g : Layout) (v₀ : List ℕ) (X : Setting tag g v₀)
+    (v : List ℕ) (l : Ledger) (D : Disk tag g v₀ v (l .contents)) where
+  abbrev r : ℕ
+  r = g .reserved
+
+  super-at : superblockAt (g .reserved) v ≡ superblockOf g
+  super-at = low-kept tag g v₀ (X .ranged) v (l .contents) D (g .reserved * 512) 4096 (omega arith) ∙ (X .super)
+
+  decoded : layoutIn (g .reserved) (superblockAt (g .reserved) v) ≡ g
+  decoded = ap (layoutIn (g .reserved)) super-at ∙ super-decoded g (X .ranged)
+
+  long : needed g * 512 ≤ length v
+  long = rw (D .sized) (X .room)
+
+  wholes : volumeLoanOk v ≡ true
+  wholes = rw (D .sized) (X .loan)
+
+  in-place : allBelow (g .sections) (λ k. not (misplaced g v k)) ≡ true
+  in-place = all-below (g .sections) (λ k. not (misplaced g v k)) (λ k h. go k h (ℕ-discrete (wholeIds g v k) 0))
+    where
+      go : (k : ℕ) → k < g .sections → Dec (wholeIds g v k ≡ 0) → not (misplaced g v k) ≡ true
+      go k h (yes z) = rw (eq-eqb (wholeIds g v k) 0 z)
+      go k h (no z) = rw (ne-eqb (wholeIds g v k) 0 z, eq-eqb ((wholeIds g v k - 1) % g .sections) k (D .places k h z))
+
+  zero-at : isZero (superblockAt (g .reserved) v) ≡ false
+  zero-at = ap isZero super-at ∙ super-not-zero g (X .ranged)
+
+  valid-at : superblockOk (g .reserved) (superblockAt (g .reserved) v) ≡ true
+  valid-at = ap (superblockOk (g .reserved)) super-at ∙ super-valid g (X .ranged) (X .layout)
+
+  low₁ : ltb 64 (g .reserved) ≡ false
+  low₁ = le-ltb 64 (g .reserved) (X .ranged .r)
+
+  low₂ : ltb (length v) ((g .reserved + 8) * 512) ≡ false
+  low₂ = le-ltb (length v) ((g .reserved + 8) * 512) (omega (arith, long, base-room g (X .ranged)))
+
+  low₃ : ltb (length v) (needed g * 512) ≡ false
+  low₃ = le-ltb (length v) (needed g * 512) long
+
+  ids : eqb (greatestId g v) (2 ^ 64 - 1) ≡ false
+  ids = ne-eqb (greatestId g v) (2 ^ 64 - 1) (omega (arith, D .top))
+
+  wrong : (st : List ℕ) → stagingOk g st ≡ false → openWith tag g (g .reserved) v st ≡ record { answer = Refused Malformed; staging = st }
+  unfolding openWith
+  wrong st e = rw (wholes, low₁, low₂, zero-at, valid-at, low₃, e)
+
+  right : (st : List ℕ) → stagingOk g st ≡ true → openWith tag g (g .reserved) v st ≡ openBy g v st passed
+  unfolding openWith
+  right st e =
+      ap (openBy g v st)
+      (passes (openRows g (g .reserved) v st) (entriesVerdict tag g (replay g v))
+      (ap not wholes, (low₁, (low₂, (zero-at, (ap not valid-at, (low₃, (ap not e, (ids, (ap not in-place, tt)))))))))
+      ∙ entries-pass tag g (replay g v) (replay-goods tag g v₀ v (l .contents) D))
+
+  pub open-runs : (st : List ℕ) → stagingOk g st ≡ true → openOf tag (g .reserved) v st ≡ openBy g v st passed
+  open-runs st e = subst (λ (x : Layout). openWith tag x (g .reserved) v st ≡ openBy g v st passed) (sym decoded) (right st e)
+
+  pub open-refused : (st : List ℕ) → stagingOk g st ≡ false → openOf tag (g .reserved) v st ≡ record { answer = Refused Malformed; staging = st }
+  open-refused st e = subst (λ (x : Layout). openWith tag x (g .reserved) v st ≡ record { answer = Refused Malformed; staging = st }) (sym decoded) (wrong st e)
+
+  -- what an open leads to
+  abbrev OpenLeads : OpenResult → Type 0
+  OpenLeads o = Inv tag g v₀ X (openWorld v o) (note (sectionSize (g .width)) l (openedNote (openTaken (o .answer))))
+
+  start-at : (x : Replayed) (xs : List Replayed) → At g (x ∷ xs) 0 0 0
+  start-at x xs =
+      let l : 0 < homeCount g (x .entry) = omega (arith, home-two g (x .entry)) in here refl l
+
+  starts-at : (xs : List Replayed) → storesOf g xs ≢ 0 → At g xs 0 0 0
+  starts-at [] e = absurd (e refl)
+  starts-at (x ∷ xs) e = start-at x xs
+
+  empty-writes : (xs : List Replayed) → storesOf g xs ≡ 0 → writes xs ≡ []
+  empty-writes [] e = refl
+  empty-writes (x ∷ xs) e = absurd (omega (arith, at-in g (start-at x xs)))
+
+  opened : l .batch ≡ [] → l .due ≡ 0 → (st : List ℕ) → OpenLeads (openBy g v st passed)
+  opened b d st = go (ℕ-discrete (storesOf g (replay g v)) 0)
+    where
+      go : Dec (storesOf g (replay g v) ≡ 0) → OpenLeads (openBy g v st passed)
+      go (yes z) =
+          rw (eq-eqb (storesOf g (replay g v)) 0 z)
+          (record {
+            lives = filling 0 (greatestId g v + 1) (emptySection (g .width)) D
+                (record {
+                  staged = staged-empty tag g v₀ X;
+                  batch = sym b;
+                  due = d;
+                  next = refl;
+                  clean = λ s h. D .durable .unnamed s h (rw (empty-writes (replay g v) z));
+                });
+            fills = λ q. tt;
+          })
+      go (no z) =
+          rw (ne-eqb (storesOf g (replay g v)) 0 z)
+          (record {
+            lives = recovering (greatestId g v + 1) 0 (emptySection (g .width)) D
+                (record {
+                  staged = staged-empty tag g v₀ X;
+                  empty = b;
+                  due = d;
+                  next = refl;
+                  i = 0;
+                  h = 0;
+                  spot = starts-at (replay g v) z;
+                  progress = pass-replays (g .provided) (D .durable);
+                });
+            fills = λ q. never q;
+          })
+
+  pub open-keeps : (st : List ℕ) → l .batch ≡ [] → l .due ≡ 0 → OpenLeads (openOf tag (g .reserved) v st)
+  open-keeps st b d = go (which (stagingOk g st))
+    where
+      go : Which (stagingOk g st) → OpenLeads (openOf tag (g .reserved) v st)
+      go (isTrue t) = rw (open-runs st t) (opened b d st)
+      go (isFalse f) = rw (open-refused st f) (record { lives = stopped D b d; fills = λ q. never q })

@@ -1,0 +1,68 @@
+-- Format: document 01, "Working a volume", Format; refusals 1, 2, 5, 3.
+--
+-- formatRows g v      : the rules of the call, in order
+-- freshRun tag g q n  : run q with n data sectors: their tags, zeros to the end of the tag area, zero data
+-- freshVolume tag g v : the volume v as format leaves it
+-- formatOf tag g v    : the call: its answer and the volume afterwards
+use Prim.Native.Nat.{ℕ, _+_, _-_, _*_, _/_, _%_}
+use mathlib.Core.Bool.{Bool, not}
+use mathlib.Core.List.{List, [], _∷_, _++_}
+use lib.ListN.{length, take, drop, replicate}
+use lib.Dec.{ltb}
+use Rattle.octets.specs.Choice.{firstMet}
+use Rattle.octets.specs.Sectors.{sectorSize}
+use Rattle.model.specs.declared.FormatAnswer.{FormatAnswer}
+use Rattle.model.specs.declared.FormatAnswer.the-variants.{Formatted, Refused}
+use Rattle.model.specs.declared.Layout.{Layout}
+use Rattle.model.specs.declared.Refusal.the-variants.{Malformed, Parameter, Short, Superblock}
+use Rattle.model.specs.Layout.{sectionSize, runLength, tagArea, needed, layoutOk}
+use Rattle.model.specs.Superblock.{superblockOf, superblockAt, isZero}
+use Rattle.model.specs.Section.{collect}
+use Rattle.model.specs.Tag.{Tag}
+use Rattle.model.specs.State.{Verdict, passed, refused, volumeLoanOk}
+
+abbrev pub zeros : ℕ → List ℕ
+zeros n = replicate n 0
+
+-- "It makes the journal, tag padding and data zero, each tag fit, and writes the superblock."
+
+abbrev pub freshTags : Tag → Layout → ℕ → ℕ → List ℕ
+freshTags tag g q n = collect n (λ i. tag (q * runLength g + i) (zeros sectorSize))
+
+abbrev pub freshRun : Tag → Layout → ℕ → ℕ → List ℕ
+freshRun tag g q n = freshTags tag g q n ++ (zeros (tagArea g * sectorSize - n * g .width) ++ zeros (n * sectorSize))
+
+-- the number of the last run, and of its data sectors
+abbrev pub lastRun : Layout → ℕ
+lastRun g = (g .provided - 1) / runLength g
+
+abbrev pub lastLength : Layout → ℕ
+lastLength g = (g .provided - 1) % runLength g + 1
+
+unfoldable pub freshVolume : Tag → Layout → List ℕ → List ℕ
+freshVolume tag g v =
+    take (g .reserved * sectorSize) v
+    ++ (superblockOf g
+    ++ (zeros (g .sections * sectionSize (g .width) * sectorSize)
+    ++ (collect (lastRun g) (λ q. freshRun tag g q (runLength g))
+    ++ (freshRun tag g (lastRun g) (lastLength g)
+    ++ drop (needed g * sectorSize) v))))
+
+abbrev pub formatRows : Layout → List ℕ → List (Bool × Verdict)
+formatRows g v =
+    (not (volumeLoanOk v), refused Malformed)
+    ∷ (not (layoutOk g), refused Parameter)
+    ∷ (ltb (length v) (needed g * sectorSize), refused (Short (needed g)))
+    ∷ (not (isZero (superblockAt (g .reserved) v)), refused Superblock)
+    ∷ []
+
+pub record FormatResult : Type 0 where
+  pub answer : FormatAnswer
+  pub volume : List ℕ
+
+abbrev pub formatBy : Tag → Layout → List ℕ → Verdict → FormatResult
+formatBy tag g v passed = record { answer = Formatted; volume = freshVolume tag g v }
+formatBy tag g v (refused r) = record { answer = Refused r; volume = v }
+
+unfoldable pub formatOf : Tag → Layout → List ℕ → FormatResult
+formatOf tag g v = formatBy tag g v (firstMet (formatRows g v) passed)

@@ -1,0 +1,61 @@
+-- What holds beside demand 3, which says nothing of a volume whose opens are all refused. For the world and the ledger after every list of calls and
+-- cuts on a formatted volume. The proof is in proofs/Guarantees.
+--
+-- worldOf tag g v es   : the world after the events es on the volume that format left of v
+-- toldOf tag g v es    : the ledger of their transcript
+-- Outside g b          : byte b is one that no step changes
+-- Guarantees ..        : what holds of them
+use Prim.Native.Nat.{ℕ, _+_, _*_, _≤_, _<_}
+use mathlib.Core.Bool.{true}
+use mathlib.Core.Logic.{_⊎_}
+use mathlib.Core.Path.{_≡_}
+use mathlib.Core.List.{List, _∷_}
+use lib.ListN.{length, getD, replicate}
+use lib.Dec.{eqb}
+use Rattle.octets.specs.Sectors.{sectorSize, sectorAt}
+use Rattle.model.specs.declared.FormatAnswer.the-variants.{Formatted}
+use Rattle.model.specs.declared.Layout.{Layout}
+use Rattle.model.specs.declared.OpenAnswer.the-variants.{Opened}
+use Rattle.model.specs.declared.State.{State}
+use Rattle.model.specs.Layout.{sectionSize, sectionAt, base, dataAt, tagByte, needed}
+use Rattle.model.specs.Tag.{Tag}
+use Rattle.model.specs.Format.{formatOf}
+use Rattle.model.specs.Open.{openOf}
+use Rattle.model.specs.Step.{stepOf}
+use Rattle.model.specs.Ledger.{Ledger, entersNext, ledgerOf}
+use Rattle.model.specs.World.{Event, anOpen, aStep, off, on, World, volumeIn, begin, openTaken, stepTaken, stepAcknowledges, after, transcript}
+
+abbrev pub worldOf : Tag → Layout → List ℕ → List Event → World
+worldOf tag g v es = after tag (g .reserved) (begin (formatOf tag g v .volume)) es
+
+abbrev pub toldOf : Tag → Layout → List ℕ → List Event → Ledger
+toldOf tag g v es = ledgerOf (sectionSize (g .width)) (transcript tag (g .reserved) (begin (formatOf tag g v .volume)) es)
+
+-- byte b of the volume is in no journal sector, in no data sector and in no tag: what format leaves there, reserved sectors, superblock, tag padding and
+-- the sectors behind the last run, no step changes
+pub record Outside (g : Layout) (b : ℕ) : Type 0 where
+  pub journal : (b < sectionAt g 0 * sectorSize) ⊎ (base g * sectorSize ≤ b)
+  pub contents : (s : ℕ) → s < g .provided → (b < dataAt g s * sectorSize) ⊎ (dataAt g s * sectorSize + sectorSize ≤ b)
+  pub tags : (s : ℕ) → s < g .provided → (b < tagByte g s) ⊎ (tagByte g s + g .width ≤ b)
+
+pub record Guarantees (tag : Tag) (g : Layout) (v₀ : List ℕ) (w : World) (l : Ledger) : Type 0 where
+  -- an open with staging of the right length is taken
+  pub opens : (staging : List ℕ) → w .live ≡ off → length staging ≡ sectionSize (g .width) * sectorSize
+      → openTaken (openOf tag (g .reserved) (volumeIn (w .medium)) staging .answer) ≡ true
+  -- no step is refused
+  pub steps : (s : State) (staging : List ℕ) → w .live ≡ on s staging → stepTaken (stepOf s (volumeIn (w .medium)) staging .answer) ≡ true
+  -- acknowledged is said exactly when the ledger enters a batch
+  pub acknowledged : (s : State) (staging : List ℕ) → w .live ≡ on s staging
+      → stepAcknowledges (stepOf s (volumeIn (w .medium)) staging .answer) ≡ entersNext l
+  -- open's number is the number of steps to filling: the volume is settled after as many, and not before
+  pub counts : (staging : List ℕ) (s : State) (n : ℕ) → w .live ≡ off
+      → openOf tag (g .reserved) (volumeIn (w .medium)) staging .answer ≡ Opened s n
+      → (k : ℕ) → k ≤ n → after tag (g .reserved) w (anOpen staging ∷ replicate k aStep) .settled ≡ eqb k n
+  -- "Unused tag bytes are zero at format and never changed"; "Sectors behind the last run are never touched."
+  pub untouched : (b : ℕ) → Outside g b → getD (volumeIn (w .medium)) b 0 ≡ getD v₀ b 0
+  pub behind : (a : ℕ) → needed g ≤ a → sectorAt (volumeIn (w .medium)) a ≡ sectorAt v₀ a
+
+abbrev pub Guaranteed : Type 0
+Guaranteed =
+    (tag : Tag) (g : Layout) → ((s : ℕ) (bytes : List ℕ) → length (tag s bytes) ≡ g .width)
+    → (v : List ℕ) → formatOf tag g v .answer ≡ Formatted → (es : List Event) → Guarantees tag g (formatOf tag g v .volume) (worldOf tag g v es) (toldOf tag g v es)

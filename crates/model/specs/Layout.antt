@@ -1,0 +1,114 @@
+-- Sizes and addresses: document 01, "Volume layout, in 512-byte sectors" and "A journal section". Stated once, over T.
+-- Unless another unit is named, a size is in sectors, and an address is the number of a sector of the volume.
+--
+-- entrySize t      : the bytes of a journal entry
+-- perSector t      : the entries in a metadata sector
+-- entryCount t     : E, the entries of a section
+-- sectionSize t    : M, the size of a section
+-- runLength g      : N, the data sectors of a run
+-- tagArea g        : A, the size of a run's tag area
+-- sectionAt g k    : the first sector of section k
+-- base g           : B, the first sector behind the journal
+-- runAt g s        : the first sector of the run that has logical sector s
+-- dataAt g s       : where logical sector s lies
+-- tagPlace g s     : the byte of the run's tag area at which the tag of s starts; tagSector g s and tagOffset g s: the sector with it, and the byte there
+-- tagByte g s      : the byte of the volume at which the tag of s starts
+-- needed g         : the sectors that the layout needs
+-- layoutOk g       : whether every parameter is in range
+use Prim.Native.Nat.{ℕ, _+_, _-_, _*_, _/_, _%_, _^_}
+use mathlib.Core.Bool.{Bool, _&&_, _||_}
+use lib.Dec.{leb, eqb}
+use Rattle.octets.specs.Sectors.{sectorSize}
+use Rattle.model.specs.declared.Layout.{Layout}
+
+-- ---- limits: "Ranges: volume at most 65,536 sectors; r 0 to 64; log2 N 3 to 15; T is 8, 16 or 32 ..; S 1 to 64; P 1 to 65,536."
+
+abbrev pub mostSectors : ℕ
+mostSectors = 65536
+
+abbrev pub mostReserved : ℕ
+mostReserved = 64
+
+abbrev pub leastShift : ℕ
+leastShift = 3
+
+abbrev pub mostShift : ℕ
+mostShift = 15
+
+abbrev pub mostSections : ℕ
+mostSections = 64
+
+abbrev pub mostProvided : ℕ
+mostProvided = 65536
+
+-- ---- a section: "An entry is the logical sector (8 bytes), the last 8 data bytes, the tag. A metadata sector has as many whole entries as fit in 496
+-- bytes"; "8 metadata sectors, then one data sector for each entry"
+
+abbrev pub entrySize : ℕ → ℕ
+entrySize t = 16 + t
+
+abbrev pub perSector : ℕ → ℕ
+perSector t = 496 / entrySize t
+
+abbrev pub entryCount : ℕ → ℕ
+entryCount t = 8 * perSector t
+
+abbrev pub sectionSize : ℕ → ℕ
+sectionSize t = 8 + entryCount t
+
+-- ---- the volume: reserved sectors, 8 sectors of superblock, the journal, the runs
+
+abbrev pub superblockSize : ℕ
+superblockSize = 8
+
+abbrev pub sectionAt : Layout → ℕ → ℕ
+sectionAt g k = g .reserved + superblockSize + k * sectionSize (g .width)
+
+-- "The base B is r + 8 + S × M."
+abbrev pub base : Layout → ℕ
+base g = sectionAt g (g .sections)
+
+abbrev pub runLength : Layout → ℕ
+runLength g = 2 ^ g .shift
+
+-- "A = 8 × ceil(N × T / 4096)"
+abbrev pub tagArea : Layout → ℕ
+tagArea g = 8 * ((runLength g * g .width + 4095) / 4096)
+
+abbrev pub runAt : Layout → ℕ → ℕ
+runAt g s = base g + s / runLength g * (tagArea g + runLength g)
+
+-- "Sector s lies at B + (s div N) × (A + N) + A + (s mod N)."
+abbrev pub dataAt : Layout → ℕ → ℕ
+dataAt g s = runAt g s + tagArea g + s % runLength g
+
+abbrev pub tagPlace : Layout → ℕ → ℕ
+tagPlace g s = s % runLength g * g .width
+
+-- "Its tag starts at byte (B + (s div N) × (A + N)) × 512 + (s mod N) × T."
+abbrev pub tagByte : Layout → ℕ → ℕ
+tagByte g s = runAt g s * sectorSize + tagPlace g s
+
+abbrev pub tagSector : Layout → ℕ → ℕ
+tagSector g s = runAt g s + tagPlace g s / sectorSize
+
+abbrev pub tagOffset : Layout → ℕ → ℕ
+tagOffset g s = tagPlace g s % sectorSize
+
+-- "the last run has only the data sectors still needed"
+abbrev pub needed : Layout → ℕ
+needed g = dataAt g (g .provided - 1) + 1
+
+-- ---- ranges
+
+-- "T is 8, 16 or 32 and any other number is refused"
+unfoldable pub widthOk : ℕ → Bool
+widthOk t = eqb t 8 || eqb t 16 || eqb t 32
+
+unfoldable pub layoutOk : Layout → Bool
+layoutOk g =
+    leb (g .reserved) mostReserved
+    && (leb leastShift (g .shift) && leb (g .shift) mostShift)
+    && widthOk (g .width)
+    && (leb 1 (g .sections) && leb (g .sections) mostSections)
+    && (leb 1 (g .provided) && leb (g .provided) mostProvided)

@@ -1,0 +1,92 @@
+-- The ledger: document 01, "The ledger of demand 3", its second paragraph. It is a fold over a transcript, and never sees a volume, a state or an answer.
+--
+-- Noted          : what the ledger is fed: "the cuts and calls in order, each write's sector and bytes, and which calls were refused"
+-- Contents       : what each logical sector holds
+-- Ledger         : the contents, the batch, and how many taken steps are still to come until the batch is entered (0 if no flush began that)
+-- lastFor ws s d : the bytes of the last write of ws to sector s, else d
+-- note m l x     : the ledger l after x, for sections of m sectors
+-- ledgerOf m xs  : the ledger of the transcript xs
+use Prim.Native.Nat.{ℕ, zero, suc}
+use mathlib.Core.Bool.{Bool, true, false}
+use mathlib.Core.List.{List, [], _∷_, _++_}
+use lib.ListN.{length, replicate}
+use lib.Dec.{eqb}
+use Rattle.octets.specs.Choice.{pick}
+use Rattle.octets.specs.Sectors.{sectorSize}
+
+pub data Noted : Type 0 where
+  cut : Noted
+  opened : (taken : Bool) → Noted
+  wrote : (taken : Bool) (sector : ℕ) (bytes : List ℕ) → Noted
+  flushed : (taken : Bool) → Noted
+  stepped : (taken : Bool) → Noted
+  read : (taken : Bool) → Noted
+
+pub record Write : Type 0 where
+  pub sector : ℕ
+  pub bytes : List ℕ
+
+abbrev pub Contents : Type 0
+Contents = (sector : ℕ) → List ℕ
+
+abbrev pub lastFor : List Write → ℕ → List ℕ → List ℕ
+lastFor [] s d = d
+lastFor (w ∷ ws) s d = lastFor ws s (pick (eqb (w .sector) s) (w .bytes) d)
+
+-- a batch entered in the contents, in order
+abbrev pub entered : Contents → List Write → Contents
+entered c ws s = lastFor ws s (c s)
+
+pub record Ledger : Type 0 where
+  pub contents : Contents
+  pub batch : List Write
+  pub due : ℕ
+
+-- "It starts with P contents of 512 zero bytes and an empty batch."
+abbrev pub start : Ledger
+start = record { contents = λ s. replicate sectorSize 0; batch = []; due = 0 }
+
+-- "A taken write adds its sector and bytes to the batch's end."
+abbrev pub afterWrite : ℕ → List ℕ → Ledger → Ledger
+afterWrite s bytes l = record { contents = l .contents; batch = l .batch ++ (record { sector = s; bytes = bytes } ∷ []); due = l .due }
+
+-- "after a taken flush .. if it wasn't empty at the flush"
+abbrev pub afterFlush : ℕ → Ledger → Ledger
+afterFlush m l = record { contents = l .contents; batch = l .batch; due = pick (eqb (length (l .batch)) 0) 0 m }
+
+-- "The M-th taken step after a taken flush enters the batch in the contents, in order, and empties it"
+abbrev pub countDown : Contents → List Write → ℕ → Ledger
+countDown c ws zero = record { contents = c; batch = ws; due = 0 }
+countDown c ws (suc zero) = record { contents = entered c ws; batch = []; due = 0 }
+countDown c ws (suc (suc n)) = record { contents = c; batch = ws; due = suc n }
+
+abbrev pub afterStep : Ledger → Ledger
+afterStep l = countDown (l .contents) (l .batch) (l .due)
+
+-- whether the next taken step enters the batch
+abbrev pub entersNext : Ledger → Bool
+entersNext l = eqb (l .due) 1
+
+-- ".. and no cut came between. A cut empties it."
+abbrev pub afterCut : Ledger → Ledger
+afterCut l = record { contents = l .contents; batch = []; due = 0 }
+
+-- "All else, refused calls too, changes nothing."
+abbrev pub note : ℕ → Ledger → Noted → Ledger
+note m l cut = afterCut l
+note m l (opened taken) = l
+note m l (wrote true s bytes) = afterWrite s bytes l
+note m l (wrote false s bytes) = l
+note m l (flushed true) = afterFlush m l
+note m l (flushed false) = l
+note m l (stepped true) = afterStep l
+note m l (stepped false) = l
+note m l (read taken) = l
+
+-- the ledger l after a transcript, and the ledger of a whole transcript
+abbrev pub noteAll : ℕ → Ledger → List Noted → Ledger
+noteAll m l [] = l
+noteAll m l (x ∷ xs) = noteAll m (note m l x) xs
+
+abbrev pub ledgerOf : ℕ → List Noted → Ledger
+ledgerOf m xs = noteAll m start xs

@@ -1,0 +1,20 @@
+-- The specification of the volume, in the order of document 01.
+pub mod Refusal
+pub mod Layout
+pub mod Superblock
+pub mod Section
+pub mod Journal
+pub mod Tag
+pub mod Store
+pub mod State
+pub mod Format
+pub mod Open
+pub mod Write
+pub mod Flush
+pub mod Step
+pub mod Read
+pub mod Ledger
+pub mod World
+pub mod Demand3
+pub mod Guarantees
+pub mod ReadBack

@@ -1,0 +1,79 @@
+-- Open: document 01, "Working a volume", Open; refusals 1 (volume), 2 (r), 5 (short of r + 8), 3, 4, 5, 1 (staging), 10, 11 by section, then 6 and 7 entry
+-- by entry in replay order. It stores nothing on the volume.
+--
+-- misplaced g v k        : whether section k is whole and stands in the wrong place
+-- openRows g r v st      : the rules up to 11, for the layout g that the superblock holds
+-- entriesVerdict ..      : the rules 6 and 7, entry by entry
+-- openOf tag r v st      : the call: its answer and the staging loan afterwards
+use Prim.Native.Nat.{ℕ, zero, suc, _+_, _-_, _*_, _%_}
+use mathlib.Core.Bool.{Bool, not, _&&_}
+use mathlib.Core.List.{List, [], _∷_}
+use lib.ListN.{length}
+use lib.Dec.{leb, ltb, eqb}
+use Rattle.octets.specs.Choice.{pick, firstMet}
+use Rattle.octets.specs.Parts.{same}
+use Rattle.octets.specs.Sectors.{sectorSize}
+use Rattle.model.specs.declared.Layout.{Layout}
+use Rattle.model.specs.declared.OpenAnswer.{OpenAnswer}
+use Rattle.model.specs.declared.OpenAnswer.the-variants.{Opened, Refused}
+use Rattle.model.specs.declared.Phase.{Phase}
+use Rattle.model.specs.declared.Phase.the-variants.{Filling, Recovering}
+use Rattle.model.specs.declared.Refusal.the-variants.{Malformed, Parameter, Superblock, Invalid, Short, JournalRange, JournalTagMismatch, Exhausted, Misplaced}
+use Rattle.model.specs.declared.State.{State}
+use Rattle.model.specs.Layout.{mostReserved, superblockSize, needed}
+use Rattle.model.specs.Superblock.{superblockAt, layoutIn, isZero, superblockOk}
+use Rattle.model.specs.Section.{allBelow, emptySection}
+use Rattle.model.specs.Journal.{greatestId, sectionFor, wholeIds, Replayed, replay}
+use Rattle.model.specs.Tag.{Tag}
+use Rattle.model.specs.Store.{storesOf}
+use Rattle.model.specs.State.{Verdict, passed, refused, lastId, volumeLoanOk, stagingOk}
+
+abbrev pub misplaced : Layout → List ℕ → ℕ → Bool
+misplaced g v k = not (eqb (wholeIds g v k) 0) && not (eqb (sectionFor g (wholeIds g v k)) k)
+
+-- the least number below n of which f holds
+abbrev pub firstBelow : ℕ → (ℕ → Bool) → ℕ
+firstBelow zero f = 0
+firstBelow (suc n) f = pick (allBelow n (λ k. not (f k))) n (firstBelow n f)
+
+abbrev pub openRows : Layout → ℕ → List ℕ → List ℕ → List (Bool × Verdict)
+openRows g r v st =
+    (not (volumeLoanOk v), refused Malformed)
+    ∷ (ltb mostReserved r, refused Parameter)
+    ∷ (ltb (length v) ((r + superblockSize) * sectorSize), refused (Short (r + superblockSize)))
+    ∷ (isZero (superblockAt r v), refused Superblock)
+    ∷ (not (superblockOk r (superblockAt r v)), refused Invalid)
+    ∷ (ltb (length v) (needed g * sectorSize), refused (Short (needed g)))
+    ∷ (not (stagingOk g st), refused Malformed)
+    ∷ (eqb (greatestId g v) lastId, refused Exhausted)
+    ∷ (not (allBelow (g .sections) (λ k. not (misplaced g v k))), refused (Misplaced (firstBelow (g .sections) (misplaced g v))))
+    ∷ []
+
+abbrev pub entriesVerdict : Tag → Layout → List Replayed → Verdict
+entriesVerdict tag g [] = passed
+entriesVerdict tag g (x ∷ xs) =
+    pick (leb (g .provided) (x .entry .sector)) (refused (JournalRange (x .section) (x .place)))
+    (pick (not (same (x .entry .tag) (tag (x .entry .sector) (x .entry .bytes)))) (refused (JournalTagMismatch (x .section) (x .place)))
+    (entriesVerdict tag g xs))
+
+-- "The volume is then recovering, or filling if there is nothing to replay."
+abbrev pub phaseFor : ℕ → Phase
+phaseFor n = pick (eqb n 0) Filling (Recovering 0)
+
+abbrev pub openedState : Layout → List ℕ → State
+openedState g v = record { layout = g; phase = phaseFor (storesOf g (replay g v)); count = 0; id = greatestId g v + 1 }
+
+pub record OpenResult : Type 0 where
+  pub answer : OpenAnswer
+  pub staging : List ℕ
+
+-- "Open reports how many stores are to come"; "It fills the staging loan .. as an empty section with ids zero."
+abbrev pub openBy : Layout → List ℕ → List ℕ → Verdict → OpenResult
+openBy g v st passed = record { answer = Opened (openedState g v) (storesOf g (replay g v)); staging = emptySection (g .width) }
+openBy g v st (refused r) = record { answer = Refused r; staging = st }
+
+unfoldable pub openWith : Tag → Layout → ℕ → List ℕ → List ℕ → OpenResult
+openWith tag g r v st = openBy g v st (firstMet (openRows g r v st) (entriesVerdict tag g (replay g v)))
+
+abbrev pub openOf : Tag → ℕ → List ℕ → List ℕ → OpenResult
+openOf tag r v st = openWith tag (layoutIn r (superblockAt r v)) r v st

@@ -1,0 +1,84 @@
+-- What is tested of loans and states: document 01, "Working a volume", its last paragraph, and "Refusal numbers", 1.
+--
+-- Verdict             : what the rules of a call say: none is met, or the refusal of the first that is
+-- volumeLoanOk v      : whether a volume is whole sectors, and not over the limit
+-- stagingOk g st      : whether a staging loan is as long as a section
+-- sectorOk b          : whether a loan is as long as a sector
+-- stateOk s           : whether the state s is sound, as far as no volume is needed
+-- volumeOk s v        : whether v is a volume that the layout fits, and on which the place of s exists
+use Prim.Native.Nat.{ℕ, _-_, _*_, _%_, _^_}
+use mathlib.Core.Bool.{Bool, true, false, not, _&&_}
+use mathlib.Core.List.{List}
+use lib.ListN.{length}
+use lib.Dec.{leb, ltb, eqb}
+use Rattle.octets.specs.Sectors.{sectorSize}
+use Rattle.model.specs.declared.Layout.{Layout}
+use Rattle.model.specs.declared.Phase.{Phase}
+use Rattle.model.specs.declared.Phase.the-variants.{Filling, Committing, WritingBack, Recovering}
+use Rattle.model.specs.declared.Refusal.{Refusal}
+use Rattle.model.specs.declared.State.{State}
+use Rattle.model.specs.Layout.{mostSectors, entryCount, sectionSize, needed, layoutOk}
+use Rattle.model.specs.Journal.{replay}
+use Rattle.model.specs.Store.{storesOf}
+
+-- The rules of a call are rows of a test and a verdict, in document 01's order, read by `firstMet` of octets.
+pub data Verdict : Type 0 where
+  passed : Verdict
+  refused : Refusal → Verdict
+
+-- "2^64 − 1", which no commit may be given
+abbrev pub lastId : ℕ
+lastId = 2 ^ 64 - 1
+
+-- ---- loans
+
+abbrev pub volumeLoanOk : List ℕ → Bool
+volumeLoanOk v = eqb (length v % sectorSize) 0 && leb (length v) (mostSectors * sectorSize)
+
+unfoldable pub stagingOk : Layout → List ℕ → Bool
+stagingOk g st = eqb (length st) (sectionSize (g .width) * sectorSize)
+
+abbrev pub sectorOk : List ℕ → Bool
+sectorOk b = eqb (length b) sectorSize
+
+-- ---- states
+
+-- "its place exists: a sector below M, an entry below the count ..  Committing needs a count above 0 and an id below 2^64 − 1"; "0 when recovering"
+abbrev pub placeOk : Layout → ℕ → ℕ → Phase → Bool
+placeOk g count id Filling = true
+placeOk g count id (Committing j) = ltb j (sectionSize (g .width)) && (ltb 0 count && ltb id lastId)
+placeOk g count id (WritingBack i h) = ltb i count && ltb h 2
+placeOk g count id (Recovering k) = eqb count 0
+
+-- "its parameters are in range ..  its entry count is at most E ..  its id is not 0, and its place exists"
+unfoldable pub stateOk : State → Bool
+stateOk s =
+    layoutOk (s .layout)
+    && (leb (s .count) (entryCount (s .layout .width))
+    && (not (eqb (s .id) 0)
+    && placeOk (s .layout) (s .count) (s .id) (s .phase)))
+
+-- "a store below the journal's present total"
+abbrev pub replayOk : Layout → List ℕ → Phase → Bool
+replayOk g v Filling = true
+replayOk g v (Committing j) = true
+replayOk g v (WritingBack i h) = true
+replayOk g v (Recovering k) = ltb k (storesOf g (replay g v))
+
+-- "its layout fits the lent volume"
+unfoldable pub volumeOk : State → List ℕ → Bool
+volumeOk s v = volumeLoanOk v && (leb (needed (s .layout) * sectorSize) (length v) && replayOk (s .layout) v (s .phase))
+
+-- ---- phases
+
+abbrev pub isFilling : Phase → Bool
+isFilling Filling = true
+isFilling (Committing j) = false
+isFilling (WritingBack i h) = false
+isFilling (Recovering k) = false
+
+abbrev pub isRecovering : Phase → Bool
+isRecovering Filling = false
+isRecovering (Committing j) = false
+isRecovering (WritingBack i h) = false
+isRecovering (Recovering k) = true

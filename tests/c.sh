@@ -1,0 +1,30 @@
+#!/usr/bin/env bash
+# Tests the C interface from C and from C++, through include/gaffreel.h alone, and that the archive needs from outside
+# what the header says.
+set -euo pipefail
+cd "$(dirname "$0")/.."
+
+rt staticlib gaffreel
+
+library=target/staticlib/libgaffreel.a
+work=$(mktemp -d)
+trap 'rm -rf "$work"' EXIT
+warnings=(-Wall -Wextra -Werror -pedantic -O2)
+
+needed=$(nm --undefined-only --format=just-symbols "$library" | grep -v -e ':$' -e '^$' | sort -u | tr '\n' ' ')
+if [ "$needed" != "memcpy " ]; then
+    echo "include/gaffreel.h says that the archive needs memcpy; it needs: $needed"
+    exit 1
+fi
+if nm "$library" | grep -i ' [bcd] '; then
+    echo "include/gaffreel.h says that the archive has no writable data; it has the above"
+    exit 1
+fi
+
+for source in tests/c/*.c; do
+    name=$(basename "$source" .c)
+    gcc -std=c99 "${warnings[@]}" -Iinclude "$source" "$library" -o "$work/$name-c"
+    g++ -std=c++11 "${warnings[@]}" -Iinclude -x c++ "$source" -x none "$library" -o "$work/$name-cpp"
+    "$work/$name-c"
+    "$work/$name-cpp"
+done
