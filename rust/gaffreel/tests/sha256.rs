@@ -1,7 +1,5 @@
 //! The proved SHA-256 against the reference: answers, digests and every byte of the states.
 
-mod random;
-
 use gaffreel::{ffi, sha256, Sha256, DIGEST_LENGTH, STATE_LENGTH};
 use random::{cases, Random};
 use reference::sha256::{digest, State, LIMIT};

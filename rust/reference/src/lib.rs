@@ -1,4 +1,5 @@
-//! Plain Rust written from the standards, not from the Rattle sources: the proved library is tested against it
-//! and its speed is measured against it.
+//! Plain Rust written from the standards and document 01, not from the Rattle sources: the proved library is tested
+//! against it and its speed is measured against it.
 
 pub mod sha256;
+pub mod volume;

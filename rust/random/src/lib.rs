@@ -20,6 +20,7 @@ impl Random {
         }
     }
 
+    /// Any number.
     pub fn number(&mut self) -> u64 {
         self.state ^= self.state >> 12;
         self.state ^= self.state << 25;
@@ -27,17 +28,25 @@ impl Random {
         self.state.wrapping_mul(0x2545_f491_4f6c_dd1d)
     }
 
+    /// A number in a range.
     pub fn length(&mut self, range: RangeInclusive<usize>) -> usize {
         let choices = (range.end() - range.start() + 1) as u64;
         range.start() + (self.number() % choices) as usize
     }
 
+    /// One of some values.
+    pub fn pick<T: Copy>(&mut self, values: &[T]) -> T {
+        values[self.length(0..=values.len() - 1)]
+    }
+
+    /// Overwrites all bytes.
     pub fn fill(&mut self, bytes: &mut [u8]) {
         for part in bytes.chunks_mut(8) {
             part.copy_from_slice(&self.number().to_le_bytes()[..part.len()]);
         }
     }
 
+    /// As many bytes as asked for.
     pub fn bytes(&mut self, length: usize) -> Vec<u8> {
         let mut bytes = vec![0; length];
         self.fill(&mut bytes);

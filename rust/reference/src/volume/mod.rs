@@ -1,0 +1,38 @@
+//! A tagged volume with a journal, from document 01.
+//!
+//! A volume, a staging section and a sector are lent as bytes of any length and content; states and parameters may
+//! be anything too. Each call tests what it was given in document 01's order and answers with the first rule that is
+//! met. After a refusal the state and all lent bytes are as they were.
+
+mod check;
+mod flush;
+mod format;
+mod journal;
+mod layout;
+pub mod ledger;
+mod loan;
+mod open;
+mod read;
+mod recover;
+mod refusal;
+mod section;
+mod state;
+mod step;
+mod superblock;
+mod tag;
+mod write;
+
+pub use check::{check, Checked};
+pub use flush::{flush, Flushed};
+pub use format::format;
+pub use layout::{Geometry, Home, Layout};
+pub use loan::{Sector, SECTOR_LENGTH, VOLUME_LIMIT};
+pub use open::{open, Opened};
+pub use read::read;
+pub use recover::recover;
+pub use refusal::Refusal;
+pub use state::{Half, Phase, State};
+pub use step::{step, Said, Stepped};
+pub use superblock::SUPERBLOCK_SECTORS;
+pub use tag::digest_of_sector;
+pub use write::write;

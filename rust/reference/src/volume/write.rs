@@ -1,0 +1,36 @@
+//! Writing a sector into the batch.
+
+use super::section::{self, Entry};
+use super::{digest_of_sector, loan};
+use super::{Phase, Refusal, State};
+
+/// Adds an entry to the batch in staging, also when the sector is already there.
+pub fn write(
+    state: &mut State,
+    staging: &mut [u8],
+    sector: u64,
+    bytes: &[u8],
+) -> Result<(), Refusal> {
+    let geometry = state.sound()?;
+    let staging = loan::staging_mut(&geometry, staging)?;
+    let data = loan::sector(bytes)?;
+    if state.phase != Phase::Filling {
+        return Err(Refusal::NotNow);
+    }
+    if sector >= state.layout.provided {
+        return Err(Refusal::Sector);
+    }
+    let entry = state.count as usize;
+    if entry == geometry.entries {
+        return Err(Refusal::BatchFull);
+    }
+
+    let new = Entry {
+        sector,
+        data: *data,
+        tag: digest_of_sector(sector, data)[..geometry.tag_size].to_vec(),
+    };
+    section::put_entry(&geometry, staging, entry, &new);
+    state.count += 1;
+    Ok(())
+}

@@ -1,0 +1,89 @@
+//! Volumes made byte by byte.
+
+use reference::volume::{digest_of_sector, Geometry, Layout};
+
+/// The logical sector of an unused entry.
+pub const UNUSED: u64 = u64::MAX;
+
+/// What a section's entry is to hold.
+#[derive(Clone, Copy)]
+pub struct Entry {
+    pub sector: u64,
+    pub data: [u8; 512],
+    /// Whether its tag is to fit.
+    pub fits: bool,
+}
+
+impl Entry {
+    pub fn new(sector: u64, fill: u8) -> Entry {
+        Entry {
+            sector,
+            data: [fill; 512],
+            fits: true,
+        }
+    }
+
+    pub fn with_wrong_tag(self) -> Entry {
+        Entry {
+            fits: false,
+            ..self
+        }
+    }
+}
+
+pub fn geometry(layout: &Layout) -> Geometry {
+    layout.geometry().expect("the layout is in range")
+}
+
+/// A volume just formatted. The reserved sectors and `behind` sectors behind the last run hold bytes of their own.
+pub fn formatted(layout: &Layout, behind: usize) -> Vec<u8> {
+    let geometry = geometry(layout);
+    let mut volume = vec![0xa5; (geometry.sectors + behind) * 512];
+    let start = geometry.reserved * 512;
+    volume[start..start + 8 * 512].fill(0);
+    reference::volume::format(&mut volume, layout).expect("format is taken");
+    volume
+}
+
+/// The bytes of a section that holds these entries, the others unused, each sector with the id.
+pub fn section(geometry: &Geometry, id: u64, entries: &[Entry]) -> Vec<u8> {
+    let mut bytes = vec![0; geometry.section_sectors * 512];
+    let (per_sector, size) = (geometry.entries_per_sector, geometry.entry_size);
+    for i in 0..geometry.entries {
+        let place = i / per_sector * 512 + i % per_sector * size;
+        match entries.get(i) {
+            None => bytes[place..place + 8].fill(0xff),
+            Some(entry) => {
+                let mut tag = digest_of_sector(entry.sector, &entry.data);
+                if !entry.fits {
+                    tag[geometry.tag_size - 1] ^= 1;
+                }
+                bytes[place..place + 8].copy_from_slice(&entry.sector.to_le_bytes());
+                bytes[place + 8..place + 16].copy_from_slice(&entry.data[504..]);
+                bytes[place + 16..place + size].copy_from_slice(&tag[..geometry.tag_size]);
+                bytes[(8 + i) * 512..][..504].copy_from_slice(&entry.data[..504]);
+            }
+        }
+    }
+    for sector in bytes.chunks_exact_mut(512) {
+        sector[504..].copy_from_slice(&id.to_le_bytes());
+    }
+    bytes
+}
+
+/// Puts a section's bytes in the journal of a volume.
+pub fn put_section(volume: &mut [u8], geometry: &Geometry, number: usize, section: &[u8]) {
+    let start = geometry.journal() * 512 + number * section.len();
+    volume[start..start + section.len()].copy_from_slice(section);
+}
+
+/// Puts an id on one sector of the journal of a volume.
+pub fn put_id(volume: &mut [u8], geometry: &Geometry, section: usize, sector: usize, id: u64) {
+    let place = geometry.journal() + section * geometry.section_sectors + sector;
+    volume[place * 512 + 504..][..8].copy_from_slice(&id.to_le_bytes());
+}
+
+/// An empty staging section.
+pub fn empty_staging(geometry: &Geometry) -> Vec<u8> {
+    section(geometry, 0, &[])
+}

@@ -1,0 +1,15 @@
+//! The reference's volume: document 01's examples, histories with cuts against the ledger, the order of refusals, what
+//! each call does, and inputs of any kind.
+
+mod any_input;
+mod calls;
+mod cuts;
+mod effects;
+mod examples;
+mod histories;
+mod image;
+mod ledger;
+mod refusals;
+mod setting;
+mod soundness;
+mod world;
