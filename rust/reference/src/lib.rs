@@ -2,3 +2,4 @@
 //! and its speed is measured against it.
 
 pub mod sha256;
+pub mod tree;
