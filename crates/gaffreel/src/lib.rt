@@ -1,7 +1,9 @@
 // The C interface: what a firmware links (include/gaffreel.h). Each module holds the exported calls of one part.
 //
-// A call takes numbers and byte slices, and answers a number: 0 where it was carried out, else that of a refusal in
-// document 01, "Refusal numbers". After a refusal every buffer is as it was.
+// A call takes numbers and byte slices, and one that can refuse answers a number: 0 where it was carried out, else that of
+// a refusal in document 01, "Refusal numbers". After a refusal every buffer is as it was, but for one that receives what the
+// refusal also returns.
+pub mod hash_tree;
 pub mod sha256;
 
 // The number of a call that was carried out.

@@ -11,7 +11,7 @@ ghost use Rattle.octets.specs.Parts.{patch};
 ghost use Rattle.gaffreel.specs.Sha256.{stateSize, tailAt, wordsOf, wordBytesOf, encodeOf, decodeOf, digestSize, sha256Call, newCall, updateCall, finishCall};
 
 // Lengths and indexes in bytes.
-const DIGEST_SIZE: usize = 32;
+pub(crate) const DIGEST_SIZE: usize = 32;
 
 const STATE_SIZE: usize = 104;
 
@@ -93,7 +93,7 @@ pub extern "C" fn gaffreel_sha256_finish(state: &[u8], digest: &mut [u8]) -> u32
 }
 
 // A digest copied into a buffer of its length. (By value, so that the array's length is known.)
-fn put_digest(bytes: [u8; 32], buffer: &mut [u8])
+pub(crate) fn put_digest(bytes: [u8; 32], buffer: &mut [u8])
     requires { ⌜ length (now buffer) ≡ digestSize ⌝ }
     ensures { λ _. ⌜ now (buffer .exit) ≡ bytes ⌝ }
 {

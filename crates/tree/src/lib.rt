@@ -4,7 +4,7 @@
 // specs/Theorems.antt. Counts and indexes are usize, 64 bits on every target: none is cut off before it is tested.
 mod level;
 mod path;
-mod places;
+pub mod places;
 
 ghost use Prim.Native.Nat.{_≤_};
 ghost use mathlib.Core.Path.{_≡_};

@@ -2,4 +2,5 @@
 //! against it and its speed is measured against it.
 
 pub mod sha256;
+pub mod tree;
 pub mod volume;

@@ -3,6 +3,7 @@
 //! Each row is one function: it makes its input, so that every byte was touched before, has both sides timed by
 //! [`compare`] and checks that their results agree.
 
+use gaffreel::tree::{BLOCK_LENGTH, LONGEST_SALT};
 use std::hint::black_box;
 use std::time::{Duration, Instant};
 
@@ -16,6 +17,8 @@ fn main() {
     );
     digest_of_one_piece();
     digests_of_sectors();
+    tree_built();
+    tree_verified();
 }
 
 /// The digest of 32 MiB in one piece.
@@ -58,6 +61,82 @@ fn digests_of_sectors() {
         },
     );
     assert_eq!(proved, rust);
+}
+
+/// An image of 32 MiB, with the salt and, once it is built, the tree.
+struct Image {
+    blocks: Vec<u8>,
+    count: usize,
+    salt: Vec<u8>,
+    tree: Vec<u8>,
+    root: [u8; 32],
+}
+
+impl Image {
+    fn new() -> Image {
+        let blocks = pattern(32 * MIB);
+        let count = blocks.len() / BLOCK_LENGTH;
+        Image {
+            blocks,
+            count,
+            salt: pattern(LONGEST_SALT),
+            // Not zero, so that the pages are touched.
+            tree: vec![1; gaffreel::tree::length(count).expect("in range")],
+            root: [1; 32],
+        }
+    }
+}
+
+/// The tree over the image.
+fn tree_built() {
+    let image = Image::new();
+    let (count, salt, blocks) = (image.count, &image.salt, &image.blocks);
+    let mut proved = (image.tree.clone(), image.root);
+    let mut rust = (image.tree.clone(), image.root);
+    compare(
+        "tree over 8192 blocks",
+        blocks.len(),
+        || {
+            proved.1 = gaffreel::tree::build(count, salt, black_box(blocks), &mut proved.0)
+                .expect("all lengths fit");
+        },
+        || {
+            rust.1 = reference::tree::build(count, salt, black_box(blocks), &mut rust.0)
+                .expect("all lengths fit");
+        },
+    );
+    assert!(proved == rust);
+}
+
+/// Each block of the image verified in turn: three digests to a block, as its path has.
+fn tree_verified() {
+    let mut image = Image::new();
+    image.root = gaffreel::tree::build(image.count, &image.salt, &image.blocks, &mut image.tree)
+        .expect("all lengths fit");
+    let (count, salt, tree, root) = (image.count, &image.salt, &image.tree, &image.root);
+    let mut proved = 0;
+    let mut rust = 0;
+    compare(
+        "8192 blocks verified",
+        image.blocks.len(),
+        || {
+            proved = 0;
+            for (index, block) in image.blocks.chunks_exact(BLOCK_LENGTH).enumerate() {
+                let answer =
+                    gaffreel::tree::verify(black_box(block), index, tree, count, salt, root);
+                proved += usize::from(answer.is_ok());
+            }
+        },
+        || {
+            rust = 0;
+            for (index, block) in image.blocks.chunks_exact(BLOCK_LENGTH).enumerate() {
+                let answer =
+                    reference::tree::verify(black_box(block), index, tree, count, salt, root);
+                rust += usize::from(answer.is_ok());
+            }
+        },
+    );
+    assert_eq!((proved, rust), (count, count));
 }
 
 /// Runs both sides in turn, round by round, and prints the best time of each.
