@@ -2,6 +2,7 @@
 --
 -- lengthCall n              : what gaffreel_tree_length answers for the count n, in bytes: the tree's length; 0 where the count is out of range
 -- BuildCall                 : what gaffreel_tree_build leaves: its number, and the contents of the two buffers that it is lent to write to
+-- refusedBuild k t r        : the call was refused with the number k, and the buffers hold t and r as before
 -- buildCall n s d t r       : what it leaves of the count n, salt s, image d, tree's buffer t and root digest's buffer r
 -- levelSize                 : the length of a level's buffer, in bytes
 -- levelBytesOf v            : the level v in such a buffer: little-endian, a negative one in two's complement
@@ -35,7 +36,6 @@ pub record BuildCall : Type 0 where
   pub tree : List ℕ
   pub root : List ℕ
 
--- refused with the number k, and both buffers are as they were
 abbrev pub refusedBuild : ℕ → List ℕ → List ℕ → BuildCall
 refusedBuild k t r = record { number = k; tree = t; root = r }
 
