@@ -3,3 +3,4 @@ pub mod Sound
 pub mod Tags
 pub mod Flushes
 pub mod Formats
+pub mod Writes

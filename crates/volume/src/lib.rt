@@ -6,4 +6,5 @@ pub mod flush;
 pub mod format;
 mod state;
 mod tag;
+pub mod write;
 
