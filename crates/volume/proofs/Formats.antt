@@ -1,17 +1,18 @@
 -- Format: chunks of one length that are stored one after the other; a run; the whole volume.
-use Prim.Native.Nat.{ℕ, zero, suc, _+_, _-_, _*_, _/_, _%_, _^_, _≤_, _<_}
-use mathlib.Core.Bool.{Bool, true, false}
-use mathlib.Core.List.{List, [], _∷_, _++_, append-assoc}
-use mathlib.Core.Path.{_≡_, refl, sym, ap, _∙_, subst}
+use Prim.Native.Nat.{ℕ, suc, _+_, _-_, _*_, _/_, _%_, _^_, _≤_, _<_}
+use mathlib.Core.Bool.{true, false}
+use mathlib.Core.List.{List, [], _++_, append-assoc}
+use mathlib.Core.Path.{_≡_, sym, ap, _∙_}
 use native.Mathlib.Nat.{mul-le-mul-right, mul-le-mul-left, mul-assoc, suc-mul, mod-lt, div-le-self}
 use native.Mathlib.Numerals.{add-one}
 use native.Mathlib.Omega.{arith}
 use lib.ListN.{length, take, drop, replicate, length-append, length-replicate, take-append-drop}
 use lib.Seq.{length-take-le, drop-drop}
+use borrow.Author.Tests.{lt-ltb, le-ltb}
 use Rattle.octets.specs.Numbers.{le}
-use Rattle.octets.specs.Parts.{part, patch}
+use Rattle.octets.specs.Parts.{patch}
 use Rattle.octets.specs.Sectors.{sectorSize}
-use Rattle.octets.proofs.Parts.{length-patch, patch-join}
+use Rattle.octets.proofs.Parts.{patch-join}
 use Rattle.digest.specs.Sha256.{sha256}
 use Rattle.digest.specs.Sha256.Promise.{length-sha256}
 use Rattle.model.specs.declared.Layout.{Layout}
@@ -20,7 +21,6 @@ use Rattle.model.specs.Superblock.{superblockOf, superblockAt, isZero}
 use Rattle.model.specs.State.{volumeLoanOk}
 use Rattle.model.specs.declared.FormatAnswer.the-variants.{Formatted, Refused}
 use Rattle.model.specs.declared.Refusal.the-variants.{Malformed, Parameter, Short, Superblock}
-use borrow.Author.Tests.{lt-ltb, le-ltb}
 use Rattle.model.proofs.Addresses.{Ranged, ranged, base-room}
 use Rattle.model.proofs.Formats.{super-length}
 use Rattle.model.specs.Section.{collect}
@@ -82,31 +82,34 @@ module _ (g : Layout) (ok : layoutOk g ≡ true) where
       let Z : List ℕ = zeros (tagArea g * 512 - n * g .width) in
       let D : List ℕ = zeros (n * 512) in
       let t : length (freshTags (tagOf (g .width)) g q n) ≡ n * g .width =
-          length-collect (λ i. tagOf (g .width) (q * runLength g + i) (zeros sectorSize)) (g .width) n
-            (λ i l. tag-size (g .width) (width-high g ok) (q * runLength g + i) (zeros sectorSize)) in
+      length-collect (λ i. tagOf (g .width) (q * runLength g + i) (zeros sectorSize)) (g .width) n
+      (λ i l. tag-size (g .width) (width-high g ok) (q * runLength g + i) (zeros sectorSize)) in
       let z : length (zeros (tagArea g * 512 - n * g .width)) ≡ tagArea g * 512 - n * g .width = length-replicate (tagArea g * 512 - n * g .width) 0 in
       let d : length (zeros (n * 512)) ≡ n * 512 = length-replicate (n * 512) 0 in
       let room : n * g .width ≤ tagArea g * 512 = tags-room n h in
       let a₁ : at + n * g .width ≡ at + length (freshTags (tagOf (g .width)) g q n) = omega arith in
       let both : length (freshTags (tagOf (g .width)) g q n ++ zeros (tagArea g * 512 - n * g .width)) ≡ tagArea g * 512 =
-          omega (arith, length-append (freshTags (tagOf (g .width)) g q n) (zeros (tagArea g * 512 - n * g .width))) in
+      omega (arith, length-append (freshTags (tagOf (g .width)) g q n) (zeros (tagArea g * 512 - n * g .width))) in
       let a₂ : at + tagArea g * 512 ≡ at + length (freshTags (tagOf (g .width)) g q n ++ zeros (tagArea g * 512 - n * g .width)) = omega arith in
       let j₁ : patch (patch v at (freshTags (tagOf (g .width)) g q n)) (at + length (freshTags (tagOf (g .width)) g q n)) (zeros (tagArea g * 512 - n * g .width))
-          ≡ patch v at (freshTags (tagOf (g .width)) g q n ++ zeros (tagArea g * 512 - n * g .width)) =
-          patch-join v at (freshTags (tagOf (g .width)) g q n) (zeros (tagArea g * 512 - n * g .width)) (omega arith) in
+      ≡ patch v at (freshTags (tagOf (g .width)) g q n ++ zeros (tagArea g * 512 - n * g .width)) =
+      patch-join v at (freshTags (tagOf (g .width)) g q n) (zeros (tagArea g * 512 - n * g .width)) (omega arith) in
       let j₂ = patch-join v at (freshTags (tagOf (g .width)) g q n ++ zeros (tagArea g * 512 - n * g .width)) (zeros (n * 512)) (omega arith) in
       rw (er, e₂, e₁, ef, ea, a₁, j₁, a₂, j₂) (ap (patch v at) (append-assoc (freshTags (tagOf (g .width)) g q n) (zeros (tagArea g * 512 - n * g .width)) (zeros (n * 512))))
 
   pub run-size : (q n : ℕ) → n ≤ runLength g → length (freshRun (tagOf (g .width)) g q n) ≡ (tagArea g + n) * 512
   run-size q n h =
       let t : length (freshTags (tagOf (g .width)) g q n) ≡ n * g .width =
-          length-collect (λ i. tagOf (g .width) (q * runLength g + i) (zeros sectorSize)) (g .width) n
-            (λ i l. tag-size (g .width) (width-high g ok) (q * runLength g + i) (zeros sectorSize)) in
+      length-collect (λ i. tagOf (g .width) (q * runLength g + i) (zeros sectorSize)) (g .width) n
+      (λ i l. tag-size (g .width) (width-high g ok) (q * runLength g + i) (zeros sectorSize)) in
       let z : length (zeros (tagArea g * 512 - n * g .width)) ≡ tagArea g * 512 - n * g .width = length-replicate (tagArea g * 512 - n * g .width) 0 in
       let d : length (zeros (n * 512)) ≡ n * 512 = length-replicate (n * 512) 0 in
-      omega (arith, tags-room n h
-        , length-append (freshTags (tagOf (g .width)) g q n) (zeros (tagArea g * 512 - n * g .width) ++ zeros (n * 512))
-        , length-append (zeros (tagArea g * 512 - n * g .width)) (zeros (n * 512)))
+      omega (
+        arith,
+        tags-room n h,
+        length-append (freshTags (tagOf (g .width)) g q n) (zeros (tagArea g * 512 - n * g .width) ++ zeros (n * 512)),
+        length-append (zeros (tagArea g * 512 - n * g .width)) (zeros (n * 512)),
+      )
 
 -- ---- the whole volume
 
@@ -164,7 +167,7 @@ module _ (g : Layout) (ok : layoutOk g ≡ true) (v : List ℕ) (room : needed g
       → r ≡ patch v (base g * 512) (collect (lastRun g) (λ q. freshRun (tagOf (g .width)) g q (runLength g)) ++ freshRun (tagOf (g .width)) g (lastRun g) (lastLength g))
   tail-stored v₁ r start place es ep e₁ er =
       let full : length (collect (lastRun g) (λ q. freshRun (tagOf (g .width)) g q (runLength g))) ≡ lastRun g * ((tagArea g + runLength g) * 512) =
-          length-collect (λ q. freshRun (tagOf (g .width)) g q (runLength g)) ((tagArea g + runLength g) * 512) (lastRun g) (λ q l. run-size g ok q (runLength g) (omega arith)) in
+      length-collect (λ q. freshRun (tagOf (g .width)) g q (runLength g)) ((tagArea g + runLength g) * 512) (lastRun g) (λ q l. run-size g ok q (runLength g) (omega arith)) in
       let last : length (freshRun (tagOf (g .width)) g (lastRun g) (lastLength g)) ≡ (tagArea g + lastLength g) * 512 = run-size g ok (lastRun g) (lastLength g) last-short in
       let p : place ≡ base g * 512 + length (collect (lastRun g) (λ q. freshRun (tagOf (g .width)) g q (runLength g))) = omega arith in
       rw (er, e₁, es, p)
@@ -177,14 +180,14 @@ module _ (g : Layout) (ok : layoutOk g ≡ true) (v : List ℕ) (room : needed g
   all-stored v₁ r e₁ er =
       let H : List ℕ = superblockOf g ++ zeros (g .sections * sectionSize (g .width) * 512) in
       let full : length (collect (lastRun g) (λ q. freshRun (tagOf (g .width)) g q (runLength g))) ≡ lastRun g * ((tagArea g + runLength g) * 512) =
-          length-collect (λ q. freshRun (tagOf (g .width)) g q (runLength g)) ((tagArea g + runLength g) * 512) (lastRun g) (λ q l. run-size g ok q (runLength g) (omega arith)) in
+      length-collect (λ q. freshRun (tagOf (g .width)) g q (runLength g)) ((tagArea g + runLength g) * 512) (lastRun g) (λ q l. run-size g ok q (runLength g) (omega arith)) in
       let last : length (freshRun (tagOf (g .width)) g (lastRun g) (lastLength g)) ≡ (tagArea g + lastLength g) * 512 = run-size g ok (lastRun g) (lastLength g) last-short in
       let tail = length-append (collect (lastRun g) (λ q. freshRun (tagOf (g .width)) g q (runLength g))) (freshRun (tagOf (g .width)) g (lastRun g) (lastLength g)) in
       let head : length (superblockOf g ++ zeros (g .sections * sectionSize (g .width) * 512)) ≡ 4096 + g .sections * sectionSize (g .width) * 512 =
-          length-append (superblockOf g) (zeros (g .sections * sectionSize (g .width) * 512)) ∙ rw (super-length g, length-replicate {A = ℕ} (g .sections * sectionSize (g .width) * 512) 0) in
+      length-append (superblockOf g) (zeros (g .sections * sectionSize (g .width) * 512)) ∙ rw (super-length g, length-replicate {A = ℕ} (g .sections * sectionSize (g .width) * 512) 0) in
       let p : base g * 512 ≡ g .reserved * 512 + length (superblockOf g ++ zeros (g .sections * sectionSize (g .width) * 512)) = omega arith in
       let end : g .reserved * 512 + length ((superblockOf g ++ zeros (g .sections * sectionSize (g .width) * 512)) ++ (collect (lastRun g) (λ q. freshRun (tagOf (g .width)) g q (runLength g)) ++ freshRun (tagOf (g .width)) g (lastRun g) (lastLength g))) ≡ needed g * 512 =
-          omega (arith, runs-bytes, length-append (superblockOf g ++ zeros (g .sections * sectionSize (g .width) * 512)) (collect (lastRun g) (λ q. freshRun (tagOf (g .width)) g q (runLength g)) ++ freshRun (tagOf (g .width)) g (lastRun g) (lastLength g))) in
+      omega (arith, runs-bytes, length-append (superblockOf g ++ zeros (g .sections * sectionSize (g .width) * 512)) (collect (lastRun g) (λ q. freshRun (tagOf (g .width)) g q (runLength g)) ++ freshRun (tagOf (g .width)) g (lastRun g) (lastLength g))) in
       rw (er, e₁, p, patch-join v (g .reserved * 512) (superblockOf g ++ zeros (g .sections * sectionSize (g .width) * 512)) (collect (lastRun g) (λ q. freshRun (tagOf (g .width)) g q (runLength g)) ++ freshRun (tagOf (g .width)) g (lastRun g) (lastLength g)) (omega arith), end)
       (simp append-assoc)
 

@@ -1,11 +1,9 @@
 -- Write: one law to a return.
-use Prim.Native.Nat.{ℕ, _+_, _*_, _≤_, _<_}
-use mathlib.Core.Bool.{Bool, true, false, _&&_}
+use Prim.Native.Nat.{ℕ, _+_, _≤_, _<_}
+use mathlib.Core.Bool.{true, false}
 use mathlib.Core.List.{List}
 use mathlib.Core.Logic.{_≢_}
-use mathlib.Core.Path.{_≡_, refl, sym, ap, _∙_}
-use native.Mathlib.Omega.{arith}
-use lib.Dec.{leb, eqb}
+use mathlib.Core.Path.{_≡_, ap, _∙_}
 use lib.ListN.{length}
 use borrow.Author.Tests.{eq-eqb, ne-eqb, le-leb, lt-leb}
 use Rattle.model.specs.declared.Refusal.{Refusal}
@@ -14,9 +12,9 @@ use Rattle.model.specs.declared.State.{State}
 use Rattle.model.specs.declared.WriteAnswer.the-variants.{Taken, Refused}
 use Rattle.model.specs.declared.Written.{Written}
 use Rattle.model.specs.Layout.{entryCount}
-use Rattle.model.specs.Section.{Entry, putEntry}
+use Rattle.model.specs.Section.{putEntry}
 use Rattle.model.specs.Tag.{Tag}
-use Rattle.model.specs.State.{refused, stateOk, stagingOk, sectorOk, isFilling}
+use Rattle.model.specs.State.{refused, stateOk, stagingOk, isFilling}
 use Rattle.model.specs.Write.{newEntry, writeBy, writeOf}
 use Rattle.volume.specs.Results.{written}
 

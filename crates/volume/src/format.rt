@@ -81,7 +81,13 @@ fn put_tail(v: &mut [u8], g: Layout)
     let last = (g.provided - 1) / sectors;
     let size = (layout::tag_area(g) + sectors) * SECTOR_SIZE;
     put_runs(v, g, last, start);
-    put_run(v, g, last, (g.provided - 1) % sectors + 1, start + last * size);
+    put_run(
+        v,
+        g,
+        last,
+        (g.provided - 1) % sectors + 1,
+        start + last * size,
+    );
 }
 
 // Makes the journal, tag padding and data zero, each tag fit, and writes the superblock. Refused unless the superblock is zero.

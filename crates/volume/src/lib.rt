@@ -7,4 +7,3 @@ pub mod format;
 mod state;
 mod tag;
 pub mod write;
-

@@ -1,23 +1,17 @@
-use Rattle.volume.proofs.Formats.{chunk-fits, patch-nil, chunk-turn, run-size}
-use mathlib.Core.Path.{refl, ap, _∙_}
+use Prim.Native.Nat.{ℕ, _+_, _-_, _*_, _≤_}
+use mathlib.Core.Path.{refl, ap, _∙_, _≡_}
 use mathlib.Core.Bool.{true}
+use native.Mathlib.Omega.{arith}
+use lib.ListN.{length}
+use borrow.Author.Needs.{needs}
+use Rattle.volume.proofs.Formats.{chunk-fits, patch-nil, chunk-turn, run-size}
 use Rattle.model.specs.Format.{freshRun}
 use Rattle.model.specs.Tag.{tagOf}
 use Rattle.model.specs.Section.{collect}
 use Rattle.model.specs.Layout.{runLength, tagArea, layoutOk}
 use Rattle.octets.specs.Parts.{patch}
-use borrow.Author.Needs.{needs}
-use Prim.Native.Nat.{ℕ, _+_, _-_, _*_, _/_, _%_, _^_, _≤_, _<_}
-use native.Mathlib.Omega.{arith}
-use lib.ListN.{length, getD, take, drop, set, length-set}
-use mathlib.Core.Path.{_≡_}
 use Rattle.volume.proofs.format.put_runs.Statement.{statement}
 use Rattle.volume.proofs.format.put_runs.Tie as tie
-use Rattle.volume.proofs.format.put_runs.Reads as reads
-use Rattle.volume.proofs.format.put_runs.Lts as lts
-use Rattle.journal.proofs.layout.run_length.Reads as run-length-reads
-use Rattle.journal.proofs.layout.tag_area.Reads as tag-area-reads
-use Rattle.volume.proofs.format.put_run.Reads as put-run-reads
 
 abbrev Inv-loop : tie.InvT-loop
 Inv-loop v₀ g n at sectors size q₀ v q = (q ≤ n) × (layoutOk g ≡ true) × (n ≤ 65536) × (sectors ≡ runLength g) × (size ≡ (tagArea g + runLength g) * 512) × (at + n * size ≤ length v₀) × (length v ≡ length v₀) × (v ≡ patch v₀ at (collect q (λ r. freshRun (tagOf (g .width)) g r (runLength g))))
@@ -25,66 +19,39 @@ Inv-loop v₀ g n at sectors size q₀ v q = (q ≤ n) × (layoutOk g ≡ true) 
 abbrev μ-loop : tie.MeasureT-loop
 μ-loop v₀ g n at sectors size q₀ v q = n - q
 
--- src/format.rt:48:9
-run-length-requires : tie.Need-run-length-requires Inv-loop μ-loop
-run-length-requires c κs = search needs
-
--- src/format.rt:49:17
-tag-area-requires : tie.Need-tag-area-requires Inv-loop μ-loop
-tag-area-requires c κs = search needs
-
--- src/format.rt:49:17
-add-size : tie.Need-add-size Inv-loop μ-loop
-add-size c = search needs
-
--- src/format.rt:49:16
-mul-size : tie.Need-mul-size Inv-loop μ-loop
-mul-size c = search needs
-
--- src/format.rt:51:5
 loop-holds : tie.Need-loop-holds Inv-loop μ-loop
 loop-holds c =
     let a = c .before .before .before .args in
     let size : (c .tag-area .result + c .before .run-length .result) * 512 ≡ (tagArea (a .g) + runLength (a .g)) * 512 = omega (arith, c .tag-area .ensures .0, c .before .run-length .ensures .0) in
     (omega arith, c .before .before .before .pre .0, omega arith, c .before .run-length .ensures .0, size, rw size (c .before .before .before .pre .2), refl, patch-nil (a .v .now) (a .at))
 
--- src/format.rt:52:40
 mul-put-run : tie.Need-mul-put-run Inv-loop μ-loop
 mul-put-run c = record { fits = omega (arith, chunk-fits ((c .before .before .before .tag-area .result + c .before .before .before .before .run-length .result) * 512) (c .before .before .loop .q) (c .before .before .before .before .before .before .args .n) (omega arith)) }
 
--- src/format.rt:52:35
 add-put-run : tie.Need-add-put-run Inv-loop μ-loop
 add-put-run c = record { fits = omega (arith, chunk-fits ((c .before .before .before .tag-area .result + c .before .before .before .before .run-length .result) * 512) (c .before .before .loop .q) (c .before .before .before .before .before .before .args .n) (omega arith)) }
 
--- src/format.rt:52:9
 put-run-requires : tie.Need-put-run-requires Inv-loop μ-loop
 put-run-requires c κs = (c .before .before .loop .inv .1, omega (arith, c .before .before .loop .inv .3), omega arith, omega (arith, chunk-fits ((c .before .before .before .tag-area .result + c .before .before .before .before .run-length .result) * 512) (c .before .before .loop .q) (c .before .before .before .before .before .before .args .n) (omega arith), c .before .before .loop .inv .4, c .before .before .loop .inv .3))
 
--- src/format.rt:53:9
-add-q : tie.Need-add-q Inv-loop μ-loop
-add-q c = search needs
-
--- src/format.rt:51:5
-loop-less : tie.Need-loop-less Inv-loop μ-loop
-loop-less c = search needs
-
--- src/format.rt:51:5
 loop-again : tie.Need-loop-again Inv-loop μ-loop
 loop-again c =
     let a = c .before .before .before .before .before .before .before .before .before .args in
     let turn = c .before .before .before .before .before .loop in
     let sectors = turn .inv .3 in
-    let size = turn .inv .4 in
-    (omega arith, turn .inv .1, turn .inv .2, sectors, size, turn .inv .5, c .before .before .put-run .kept .0 ∙ turn .inv .6,
+    let size = turn .inv .4 in (
+      omega arith,
+      turn .inv .1,
+      turn .inv .2,
+      sectors,
+      size,
+      turn .inv .5,
+      c .before .before .put-run .kept .0 ∙ turn .inv .6,
       chunk-turn (λ r. freshRun (tagOf (a .g .width)) (a .g) r (runLength (a .g))) ((tagArea (a .g) + runLength (a .g)) * 512) (a .v .now) (turn .v) (a .at) (turn .q) _ (c .before .before .put-run .last .0)
-        (λ r. run-size (a .g) (turn .inv .1) r (runLength (a .g)) (omega arith)) (omega (arith, c .before .before .before .before .before .before .before .before .before .pre .2, chunk-fits ((tagArea (a .g) + runLength (a .g)) * 512) (turn .q) (a .n) (omega arith))) (turn .inv .7) (ap (freshRun (tagOf (a .g .width)) (a .g) (turn .q)) sectors)
-        (c .before .before .put-run .ensures ∙ ap (λ (x : ℕ). patch (turn .v) (a .at + turn .q * x) (freshRun (tagOf (a .g .width)) (a .g) (turn .q) (c .before .before .before .before .before .before .before .run-length .result))) size))
+          (λ r. run-size (a .g) (turn .inv .1) r (runLength (a .g)) (omega arith)) (omega (arith, c .before .before .before .before .before .before .before .before .before .pre .2, chunk-fits ((tagArea (a .g) + runLength (a .g)) * 512) (turn .q) (a .n) (omega arith))) (turn .inv .7) (ap (freshRun (tagOf (a .g .width)) (a .g) (turn .q)) sectors)
+          (c .before .before .put-run .ensures ∙ ap (λ (x : ℕ). patch (turn .v) (a .at + turn .q * x) (freshRun (tagOf (a .g .width)) (a .g) (turn .q) (c .before .before .before .before .before .before .before .run-length .result))) size),
+    )
 
--- src/format.rt:44:1
-same-length : tie.Need-same-length Inv-loop μ-loop
-same-length c = search needs
-
--- src/format.rt:44:1
 returns : tie.Need-returns Inv-loop μ-loop
 returns c =
     let e : c .before .loop .q ≡ c .before .before .before .before .before .args .n = omega arith in
@@ -96,16 +63,16 @@ put-runs-spec =
     (tie.spec
     Inv-loop
     μ-loop
-    run-length-requires
-    tag-area-requires
-    add-size
-    mul-size
+    (λ c κs. search needs)
+    (λ c κs. search needs)
+    (λ c. search needs)
+    (λ c. search needs)
     loop-holds
     mul-put-run
     add-put-run
     put-run-requires
-    add-q
-    loop-less
+    (λ c. search needs)
+    (λ c. search needs)
     loop-again
-    same-length
+    (λ c. search needs)
     returns)
