@@ -44,7 +44,7 @@ part-behind a b n x m e = ap (take m) (subst (λ (k : ℕ). drop (k + x) (a ++ b
 part-zeros : (n x m : ℕ) → x + m ≤ n → part (zeros n) x m ≡ zeros m
 part-zeros n x m h = ap (take m) (drop-replicate x n 0 (omega arith)) ∙ take-replicate m (n - x) 0 (omega arith)
 
-super-length : (g : Layout) → length (superblockOf g) ≡ 4096
+pub super-length : (g : Layout) → length (superblockOf g) ≡ 4096
 unfolding superblockOf
 super-length g = refl
 

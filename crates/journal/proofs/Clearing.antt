@@ -1,0 +1,81 @@
+-- The loops that make a section empty: what each has written so far.
+-- ---- a metadata sector: i entries are marked as unused, the rest is zero
+use Prim.Native.Nat.{ℕ, suc, _+_, _-_, _*_, _≤_, _<_}
+use mathlib.Core.List.{List, _++_, append-assoc}
+use mathlib.Core.Path.{_≡_, refl, sym, ap, _∙_}
+use native.Mathlib.Nat.{mul-comm, suc-mul, mul-le-mul-right, div-add-mod'}
+use native.Mathlib.Numerals.{add-one}
+use native.Mathlib.Omega.{arith}
+use lib.ListN.{length, take, drop, replicate, length-append, length-replicate, replicate-append-replicate}
+use lib.Seq.{take-at, drop-append-add, take-all}
+use borrow.Author.Tests.{lt-ltb, le-ltb}
+use Rattle.octets.specs.Parts.{part, patch}
+use Rattle.octets.proofs.Parts.{length-patch, take-patch, drop-replicate}
+use Rattle.model.specs.Layout.{entrySize, perSector}
+use Rattle.model.specs.Section.{collect, emptyEntry, emptySector}
+use Rattle.model.proofs.Sections.{length-collect}
+
+abbrev pub marked : ℕ → ℕ → List ℕ
+marked t i = collect i (λ j. emptyEntry t) ++ replicate (512 - i * entrySize t) 0
+
+module _ (t i : ℕ) where
+  entries-length : length (collect i (λ j. emptyEntry t)) ≡ i * entrySize t
+  entries-length = length-collect (λ j. emptyEntry t) (entrySize t) i (λ j l. simp length-replicate (omega arith))
+
+  pub marked-length : i * entrySize t ≤ 512 → length (marked t i) ≡ 512
+  marked-length h =
+      length-append (collect i (λ j. emptyEntry t)) (replicate (512 - i * entrySize t) 0)
+      ∙ omega (arith, entries-length, length-replicate {A = ℕ} (512 - i * entrySize t) 0)
+
+  pub mark-room : i < perSector t → i * entrySize t + entrySize t ≤ 496
+  mark-room l =
+      let h : suc i * entrySize t ≤ perSector t * entrySize t = mul-le-mul-right (entrySize t) l in
+      omega (arith, suc-mul i (entrySize t), div-add-mod' 496 (entrySize t))
+
+  pub mark : (r r′ : List ℕ) → i * entrySize t + entrySize t ≤ 512 → r ≡ marked t i → r′ ≡ patch r (i * entrySize t) (replicate 8 255)
+      → r′ ≡ marked t (i + 1)
+  mark r r′ h e e′ =
+      let z : List ℕ = replicate (512 - i * entrySize t) 0 in
+      let next : (i + 1) * entrySize t ≡ i * entrySize t + entrySize t = ap (λ (k : ℕ). k * entrySize t) (add-one i) ∙ suc-mul i (entrySize t) in
+      let rest : 512 - i * entrySize t - 8 ≡ 8 + t + (512 - (i + 1) * entrySize t) = omega arith in
+      let front : take (i * entrySize t) (marked t i) ≡ collect i (λ j. emptyEntry t) =
+      take-at (collect i (λ j. emptyEntry t)) z (i * entrySize t) entries-length in
+      let back : drop (i * entrySize t + 8) (marked t i) ≡ drop 8 z =
+      ap (λ (k : ℕ). drop (k + 8) (marked t i)) (sym entries-length) ∙ drop-append-add (collect i (λ j. emptyEntry t)) z 8 in
+      e′ ∙ ap (λ (x : List ℕ). patch x (i * entrySize t) (replicate 8 255)) e
+      ∙ ap (λ (x : List ℕ). x ++ (replicate 8 255 ++ drop (i * entrySize t + 8) (marked t i))) front
+      ∙ ap (λ (x : List ℕ). collect i (λ j. emptyEntry t) ++ (replicate 8 255 ++ x))
+      (back ∙ drop-replicate 8 (512 - i * entrySize t) 0 (omega arith) ∙ ap (λ (k : ℕ). replicate k 0) rest
+      ∙ sym (replicate-append-replicate (8 + t) (512 - (i + 1) * entrySize t) 0))
+      ∙ sym (append-assoc (collect i (λ j. emptyEntry t)) (emptyEntry t) (replicate (512 - (i + 1) * entrySize t) 0))
+      ∙ ap (λ (k : ℕ). collect k (λ j. emptyEntry t) ++ replicate (512 - (i + 1) * entrySize t) 0) (sym (add-one i))
+
+pub none-marked : (t : ℕ) → replicate 512 0 ≡ marked t 0
+none-marked t = ap (λ (k : ℕ). replicate k 0) {x = 512} {y = 512 - 0 * entrySize t} (omega (arith, mul-comm 0 (entrySize t)))
+
+pub all-marked : (t i : ℕ) (r : List ℕ) → i ≡ perSector t → r ≡ marked t i → r ≡ emptySector t 0
+all-marked t i r e q =
+    q ∙ ap (marked t) e
+    ∙ ap (λ (k : ℕ). collect (perSector t) (λ j. emptyEntry t) ++ replicate (512 - k) 0) (mul-comm (perSector t) (entrySize t))
+
+-- ---- a section: its first j sectors are those of an empty section
+
+module _ (t j : ℕ) (sec sec′ : List ℕ) (h : j * 512 + 512 ≤ length sec) (e : take (j * 512) sec ≡ collect j (emptySector t)) where
+  cleared : (x : List ℕ) → length x ≡ 512 → x ≡ emptySector t j → sec′ ≡ patch sec (j * 512) x
+      → (take ((j + 1) * 512) sec′ ≡ collect (j + 1) (emptySector t)) × (length sec′ ≡ length sec)
+  cleared x n w q =
+      let end : (j + 1) * 512 ≡ j * 512 + length x = omega arith in (
+        rw end (ap (take (j * 512 + length x)) q ∙ take-patch sec (j * 512) x (omega arith) ∙ ap (λ (y : List ℕ). y ++ x) e
+            ∙ ap (λ (y : List ℕ). collect j (emptySector t) ++ y) w ∙ ap (λ (k : ℕ). collect k (emptySector t)) (sym (add-one j))),
+        ap length q ∙ length-patch sec (j * 512) x (omega arith),
+      )
+
+  pub clear-metadata : (x : List ℕ) → x ≡ emptySector t 0 → length x ≡ 512 → j < 8 → sec′ ≡ patch sec (j * 512) (part x 0 512)
+      → (take ((j + 1) * 512) sec′ ≡ collect (j + 1) (emptySector t)) × (length sec′ ≡ length sec)
+  clear-metadata x m n l q =
+      let same : emptySector t 0 ≡ emptySector t j = rw (lt-ltb j 8 l) in
+      cleared x n (m ∙ same) (q ∙ ap (patch sec (j * 512)) (take-all 512 x (omega arith)))
+
+  pub clear-data : 8 ≤ j → sec′ ≡ patch sec (j * 512) (replicate 512 0)
+      → (take ((j + 1) * 512) sec′ ≡ collect (j + 1) (emptySector t)) × (length sec′ ≡ length sec)
+  clear-data l q = cleared (replicate 512 0) refl (rw (le-ltb j 8 l)) q

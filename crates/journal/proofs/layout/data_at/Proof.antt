@@ -1,0 +1,27 @@
+use native.Mathlib.Omega.{arith}
+use borrow.Author.Needs.{needs}
+use Rattle.journal.proofs.Sizes.{within}
+use Rattle.journal.proofs.layout.data_at.Statement.{statement}
+use Rattle.journal.proofs.layout.data_at.Tie as tie
+
+add-result-2 : tie.Need-add-result-2
+add-result-2 c =
+    let place = within (c .before .before .before .args .g) (c .before .before .before .pre .0) (c .run-length .result) (c .run-length .ensures .0) (c .before .before .before .args .s) in
+    omega arith
+
+returns : tie.Need-returns
+returns c =
+    let place = within (c .before .before .before .args .g) (c .before .before .before .pre .0) (c .run-length .result) (c .run-length .ensures .0) (c .before .before .before .args .s) in
+    omega arith
+
+pub data-at-spec : {M : Type 1} → statement M
+data-at-spec =
+    tie.close
+    (tie.spec
+    (λ c κs. search needs)
+    (λ c κs. search needs)
+    (λ c. search needs)
+    (λ c κs. search needs)
+    (λ c. search needs)
+    add-result-2
+    returns)

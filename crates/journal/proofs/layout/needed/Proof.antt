@@ -1,0 +1,14 @@
+use native.Mathlib.Omega.{arith}
+use borrow.Author.Needs.{needs}
+use Rattle.journal.proofs.Sizes.{provided-low, provided-high}
+use Rattle.journal.proofs.layout.needed.Statement.{statement}
+use Rattle.journal.proofs.layout.needed.Tie as tie
+
+sub-data-at : tie.Need-sub-data-at
+sub-data-at c = omega (arith, provided-low (c .before .args .g) (c .before .pre))
+
+data-at-requires : tie.Need-data-at-requires
+data-at-requires c κs = ((c .before .pre), omega (arith, provided-high (c .before .args .g) (c .before .pre)))
+
+pub needed-spec : {M : Type 1} → statement M
+needed-spec = tie.close (tie.spec sub-data-at data-at-requires (λ c. search needs) (λ c. search needs))

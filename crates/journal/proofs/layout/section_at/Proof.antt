@@ -1,0 +1,29 @@
+use native.Mathlib.Omega.{arith}
+use Rattle.journal.proofs.Sizes.{width-high, reserved-high, sections-product}
+use Rattle.journal.proofs.layout.section_at.Statement.{statement}
+use Rattle.journal.proofs.layout.section_at.Tie as tie
+
+add-result : tie.Need-add-result
+add-result c = record { fits = omega (arith, reserved-high (c .before .args .g) (c .before .pre .0)) }
+
+section-size-requires : tie.Need-section-size-requires
+section-size-requires c κs = width-high (c .before .args .g) (c .before .pre .0)
+
+mul-result : tie.Need-mul-result
+mul-result c = record { fits = omega (arith, sections-product (c .before .before .args .g) (c .before .before .pre .0) (c .before .before .args .k) (c .section-size .result) (c .before .before .pre .1) (c .section-size .ensures .0) .1) }
+
+add-result-2 : tie.Need-add-result-2
+add-result-2 c =
+    let product = sections-product (c .before .before .args .g) (c .before .before .pre .0) (c .before .before .args .k) (c .section-size .result) (c .before .before .pre .1) (c .section-size .ensures .0) in
+    let reserved = reserved-high (c .before .before .args .g) (c .before .before .pre .0) in
+    omega arith
+
+returns : tie.Need-returns
+returns c =
+    let product = sections-product (c .before .before .args .g) (c .before .before .pre .0) (c .before .before .args .k) (c .section-size .result) (c .before .before .pre .1) (c .section-size .ensures .0) in
+    let reserved = reserved-high (c .before .before .args .g) (c .before .before .pre .0) in
+    omega arith
+
+pub section-at-spec : {M : Type 1} → statement M
+section-at-spec =
+    tie.close (tie.spec add-result section-size-requires mul-result add-result-2 returns)

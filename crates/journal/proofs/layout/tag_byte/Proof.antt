@@ -1,0 +1,32 @@
+use native.Mathlib.Omega.{arith}
+use borrow.Author.Needs.{needs}
+use Rattle.journal.proofs.Sizes.{place-product}
+use Rattle.journal.proofs.layout.tag_byte.Statement.{statement}
+use Rattle.journal.proofs.layout.tag_byte.Tie as tie
+
+mul-result-2 : tie.Need-mul-result-2
+mul-result-2 c =
+    let product = place-product (c .before .before .before .args .g) (c .before .before .before .pre .0) (c .before .run-length .result) (c .before .run-length .ensures .0) (c .before .before .before .args .s) in
+    omega arith
+
+add-result : tie.Need-add-result
+add-result c =
+    let product = place-product (c .before .before .before .args .g) (c .before .before .before .pre .0) (c .before .run-length .result) (c .before .run-length .ensures .0) (c .before .before .before .args .s) in
+    omega arith
+
+returns : tie.Need-returns
+returns c =
+    let product = place-product (c .before .before .before .args .g) (c .before .before .before .pre .0) (c .before .run-length .result) (c .before .run-length .ensures .0) (c .before .before .before .args .s) in
+    omega arith
+
+pub tag-byte-spec : {M : Type 1} → statement M
+tag-byte-spec =
+    tie.close
+    (tie.spec
+    (λ c κs. search needs)
+    (λ c. search needs)
+    (λ c κs. search needs)
+    (λ c. search needs)
+    mul-result-2
+    add-result
+    returns)

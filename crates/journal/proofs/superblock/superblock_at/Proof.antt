@@ -1,0 +1,14 @@
+use Prim.Native.Nat.{_*_}
+use native.Mathlib.Omega.{arith}
+use borrow.Author.Needs.{needs}
+use Rattle.journal.proofs.Slices.{lent}
+use Rattle.journal.proofs.superblock.superblock_at.Statement.{statement}
+use Rattle.journal.proofs.superblock.superblock_at.Tie as tie
+
+returns : tie.Need-returns
+returns c = lent (c .before .args .v .now) (c .before .args .r * 512) 4096 (omega arith)
+
+pub superblock-at-spec : {M : Type 1} → statement M
+superblock-at-spec =
+    tie.close
+    (tie.spec (λ c. search needs) (λ c. search needs) (λ c. search needs) (λ c. search needs) (λ c. search needs) (λ c. search needs) returns)

@@ -1,0 +1,6 @@
+-- Laws that the proofs of the calls cite: what each test, and each way through a call, leads to.
+pub mod Sound
+pub mod Tags
+pub mod Flushes
+pub mod Formats
+pub mod Writes

@@ -1,0 +1,9 @@
+// The volume: format, open, write, flush, step and read. Document 01, "Working a volume".
+//
+// Each call takes any volume, staging, sector, parameter or state, and gives exactly what the definition of its name in the model's specs gives, with
+// document 01's tag: answer, state and every lent byte afterwards. No call has a `requires`.
+pub mod flush;
+pub mod format;
+mod state;
+mod tag;
+pub mod write;

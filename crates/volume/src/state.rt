@@ -1,0 +1,71 @@
+// What is tested of loans and states: the model's specs/State.antt.
+use journal::layout;
+use journal::layout::SECTOR_SIZE;
+use model::Layout;
+use model::Phase;
+use model::State;
+ghost use mathlib.Core.Bool.{true};
+ghost use mathlib.Core.Path.{_≡_};
+ghost use Rattle.model.specs.Layout.{layoutOk};
+ghost use Rattle.model.specs.State.{placeOk, stateOk, stagingOk, isFilling, isRecovering};
+
+// No commit may be given this id.
+pub(crate) const LAST_ID: u64 = 18446744073709551615;
+
+// Whether the place of a phase exists, as far as no volume is needed.
+fn place_ok(g: Layout, count: usize, id: u64, p: Phase) -> bool
+    requires { ⌜ layoutOk g ≡ true ⌝ }
+    ensures { λ r. ⌜ r ≡ placeOk g count id p ⌝ }
+{
+    let size = layout::section_size(g.width);
+    match p {
+        Phase::Filling => true,
+        Phase::Committing(j) => (j < size) & ((0 < count) & (id < LAST_ID)),
+        Phase::WritingBack(i, h) => (i < count) & (h < 2),
+        Phase::Recovering(_) => count == 0,
+    }
+}
+
+// Whether a state is sound, as far as no volume is needed.
+pub(crate) fn state_ok(s: State) -> bool
+    ensures { λ r. ⌜ r ≡ stateOk s ⌝ }
+{
+    let g = s.layout;
+    if !layout::layout_ok(g) {
+        return false;
+    }
+    let most = layout::entry_count(g.width);
+    let p = s.phase;
+    let place = place_ok(g, s.count, s.id, p);
+    (s.count <= most) & ((s.id != 0) & place)
+}
+
+// Whether a staging loan is as long as a section.
+pub(crate) fn staging_ok(g: Layout, st: &[u8]) -> bool
+    requires { ⌜ layoutOk g ≡ true ⌝ }
+    ensures { λ r. ⌜ r ≡ stagingOk g (now (st .entry)) ⌝ }
+{
+    st.len() == layout::section_size(g.width) * SECTOR_SIZE
+}
+
+pub(crate) fn is_filling(p: Phase) -> bool
+    ensures { λ r. ⌜ r ≡ isFilling p ⌝ }
+{
+    match p {
+        Phase::Filling => true,
+        Phase::Committing(_) => false,
+        Phase::WritingBack(_, _) => false,
+        Phase::Recovering(_) => false,
+    }
+}
+
+pub(crate) fn is_recovering(p: Phase) -> bool
+    ensures { λ r. ⌜ r ≡ isRecovering p ⌝ }
+{
+    match p {
+        Phase::Filling => false,
+        Phase::Committing(_) => false,
+        Phase::WritingBack(_, _) => false,
+        Phase::Recovering(_) => true,
+    }
+}
