@@ -113,11 +113,13 @@ module _ (g : Layout) (v : List ℕ) where
     abbrev pub storesFrom : ℕ → List Place
     storesFrom i = plan g (replayOf (drop i ks))
 
+    pub replay-next : (i : ℕ) → i < length ks → replayOf (drop i ks) ≡ usedOf (g .width) (getD ks i 0) (sectionOf g v (getD ks i 0)) ++ replayOf (drop (i + 1) ks)
+    replay-next i l =
+        ap replayOf (drop-cons ks i 0 l)
+        ∙ ap (λ (n : ℕ). usedOf (g .width) (getD ks i 0) (sectionOf g v (getD ks i 0)) ++ replayOf (drop n ks)) (sym (add-one i))
+
     next : (i : ℕ) → i < length ks → storesFrom i ≡ plan g (usedOf (g .width) (getD ks i 0) (sectionOf g v (getD ks i 0))) ++ storesFrom (i + 1)
-    next i l =
-        ap (λ (x : List ℕ). plan g (replayOf x)) (drop-cons ks i 0 l)
-        ∙ plan-append g (usedOf (g .width) (getD ks i 0) (sectionOf g v (getD ks i 0))) (replayOf (drop (suc i) ks))
-        ∙ ap (λ (n : ℕ). plan g (usedOf (g .width) (getD ks i 0) (sectionOf g v (getD ks i 0))) ++ storesFrom n) (sym (add-one i))
+    next i l = ap (plan g) (replay-next i l) ∙ plan-append g (usedOf (g .width) (getD ks i 0) (sectionOf g v (getD ks i 0))) (replayOf (drop (i + 1) ks))
 
     pub sections-left : (i m : ℕ) → m < length (storesFrom i) → i < length ks
     sections-left i m l = go (decLt i (length ks))

@@ -10,16 +10,17 @@
 -- sectionStores g v k : how many stores bring the used entries of section k home
 -- storesFor g v ks   : the same of each section of ks, in a table, and of all of them
 -- scanOf g v         : the scan of the volume v
--- placeOf t sec x    : the place of a replay that x locates in the section sec
+-- placeOf t sec x    : the place of a replay that x names in the section sec
+-- Locates g sec x p  : in the section sec, x names the place p, with an entry and a store that there are
 use Prim.Native.Nat.{ℕ, _-_, _≤_, _<_}
 use mathlib.Core.List.{List, [], _∷_, _++_, map}
 use mathlib.Core.Logic.{_≢_}
 use mathlib.Core.Path.{_≡_}
 use lib.ListN.{length, replicate}
-use Rattle.model.specs.Layout.{mostSections}
+use Rattle.model.specs.Layout.{mostSections, entryCount}
 use Rattle.model.specs.Section.{entryOf, collect}
 use Rattle.model.specs.Journal.{sectionOf, wholeIds, dueIds, Found, ordered, usedOf, replay}
-use Rattle.model.specs.Store.{Place, storeOf, storesOf}
+use Rattle.model.specs.Store.{homeCount, Place, storeOf, storesOf}
 use Rattle.model.specs.declared.Layout.{Layout}
 use Rattle.journal.specs.declared.Location.{Location}
 use Rattle.journal.specs.declared.Order.{Order}
@@ -69,3 +70,8 @@ scanOf g v =
 
 abbrev pub placeOf : ℕ → List ℕ → Location → Place
 placeOf t sec x = storeOf (record { section = x .section; place = x .entry; entry = entryOf t sec (x .entry) }) (x .store)
+
+pub record Locates (g : Layout) (sec : List ℕ) (x : Location) (p : Place) : Type 0 where
+  pub place : placeOf (g .width) sec x ≡ p
+  pub entry : x .entry < entryCount (g .width)
+  pub store : x .store < homeCount g (entryOf (g .width) sec (x .entry))
