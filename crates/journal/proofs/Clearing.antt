@@ -9,10 +9,11 @@ use native.Mathlib.Omega.{arith}
 use lib.ListN.{length, take, drop, replicate, length-append, length-replicate, replicate-append-replicate}
 use lib.Seq.{take-at, drop-append-add, take-all}
 use borrow.Author.Tests.{lt-ltb, le-ltb}
+use Rattle.octets.specs.Numbers.{le}
 use Rattle.octets.specs.Parts.{part, patch}
 use Rattle.octets.proofs.Parts.{length-patch, take-patch, drop-replicate}
 use Rattle.model.specs.Layout.{entrySize, perSector}
-use Rattle.model.specs.Section.{collect, emptyEntry, emptySector}
+use Rattle.model.specs.Section.{unused, collect, emptyEntry, emptySector}
 use Rattle.model.proofs.Sections.{length-collect}
 
 abbrev pub marked : ℕ → ℕ → List ℕ
@@ -32,7 +33,7 @@ module _ (t i : ℕ) where
       let h : suc i * entrySize t ≤ perSector t * entrySize t = mul-le-mul-right (entrySize t) l in
       omega (arith, suc-mul i (entrySize t), div-add-mod' 496 (entrySize t))
 
-  pub mark : (r r′ : List ℕ) → i * entrySize t + entrySize t ≤ 512 → r ≡ marked t i → r′ ≡ patch r (i * entrySize t) (replicate 8 255)
+  pub mark : (r r′ : List ℕ) → i * entrySize t + entrySize t ≤ 512 → r ≡ marked t i → r′ ≡ patch r (i * entrySize t) (le 8 unused)
       → r′ ≡ marked t (i + 1)
   mark r r′ h e e′ =
       let z : List ℕ = replicate (512 - i * entrySize t) 0 in
@@ -42,9 +43,9 @@ module _ (t i : ℕ) where
       take-at (collect i (λ j. emptyEntry t)) z (i * entrySize t) entries-length in
       let back : drop (i * entrySize t + 8) (marked t i) ≡ drop 8 z =
       ap (λ (k : ℕ). drop (k + 8) (marked t i)) (sym entries-length) ∙ drop-append-add (collect i (λ j. emptyEntry t)) z 8 in
-      e′ ∙ ap (λ (x : List ℕ). patch x (i * entrySize t) (replicate 8 255)) e
-      ∙ ap (λ (x : List ℕ). x ++ (replicate 8 255 ++ drop (i * entrySize t + 8) (marked t i))) front
-      ∙ ap (λ (x : List ℕ). collect i (λ j. emptyEntry t) ++ (replicate 8 255 ++ x))
+      e′ ∙ ap (λ (x : List ℕ). patch x (i * entrySize t) (le 8 unused)) e
+      ∙ ap (λ (x : List ℕ). x ++ (le 8 unused ++ drop (i * entrySize t + 8) (marked t i))) front
+      ∙ ap (λ (x : List ℕ). collect i (λ j. emptyEntry t) ++ (le 8 unused ++ x))
       (back ∙ drop-replicate 8 (512 - i * entrySize t) 0 (omega arith) ∙ ap (λ (k : ℕ). replicate k 0) rest
       ∙ sym (replicate-append-replicate (8 + t) (512 - (i + 1) * entrySize t) 0))
       ∙ sym (append-assoc (collect i (λ j. emptyEntry t)) (emptyEntry t) (replicate (512 - (i + 1) * entrySize t) 0))

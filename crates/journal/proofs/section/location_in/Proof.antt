@@ -6,7 +6,7 @@ use lib.ListN.{length}
 use borrow.Author.Needs.{needs}
 use Rattle.model.specs.Layout.{entryCount}
 use Rattle.journal.proofs.Sizes.{width-high, per-high}
-use Rattle.journal.proofs.Stores.{storesBelow, count-used, count-unused, entries-left, store-at, store-low}
+use Rattle.journal.proofs.Counts.{storesBelow, count-used, count-unused, entries-left, store-at, store-low}
 use Rattle.journal.proofs.section.location_in.Statement.{statement}
 use Rattle.journal.proofs.section.location_in.Tie as tie
 
@@ -25,12 +25,11 @@ entry-sector-requires c κs = (width-high (c .before .before .args .g) (c .befor
 returns : tie.Need-returns Inv-loop μ-loop
 returns c =
     let start = c .before .before .before .before .before in
-    let g = start .args .g in (
-      store-at g (g .width) (start .args .k) (start .args .section .now) (c .before .before .before .loop .i) (entryCount (g .width)) (c .before .before .before .loop .left) (start .args .n) (omega arith) (omega arith)
-          (λ q. c .before .if1 .taken (c .before .before .entry-sector .ensures ∙ q)) (c .before .before .before .loop .inv .1),
+    let g = start .args .g in
+    let found = store-at g (g .width) (start .args .k) (start .args .section .now) (c .before .before .before .loop .i) (entryCount (g .width)) (c .before .before .before .loop .left) (start .args .n) (omega arith) (omega arith)
+    (λ q. c .before .if1 .taken (c .before .before .entry-sector .ensures ∙ q)) (c .before .before .before .loop .inv .1) in (
+      record { place = found; entry = c .before .before .before .loop .inv .0; store = store-low g (g .width) (start .args .k) (start .args .section .now) (c .before .before .before .loop .i) (c .before .before .before .loop .left) (omega arith) },
       refl,
-      c .before .before .before .loop .inv .0,
-      store-low g (g .width) (start .args .k) (start .args .section .now) (c .before .before .before .loop .i) (c .before .before .before .loop .left) (omega arith),
     )
 
 add-i : tie.Need-add-i Inv-loop μ-loop

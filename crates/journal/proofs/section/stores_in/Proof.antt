@@ -6,7 +6,7 @@ use lib.ListN.{length}
 use borrow.Author.Needs.{needs}
 use Rattle.model.specs.Layout.{entryCount}
 use Rattle.journal.proofs.Sizes.{width-high}
-use Rattle.journal.proofs.Stores.{storesBelow, count-used, count-unused}
+use Rattle.journal.proofs.Counts.{storesBelow, count-used, count-unused}
 use Rattle.journal.proofs.section.stores_in.Statement.{statement}
 use Rattle.journal.proofs.section.stores_in.Tie as tie
 
