@@ -4,3 +4,4 @@ pub mod Tags
 pub mod Flushes
 pub mod Formats
 pub mod Writes
+pub mod Reading
