@@ -45,12 +45,13 @@ module _ (t i : ℕ) where
       → r′ ≡ marked t (i + 1)
   mark r r′ h e e′ =
       let next : (i + 1) * entrySize t ≡ i * entrySize t + entrySize t = ap (λ (k : ℕ). k * entrySize t) (add-one i) ∙ suc-mul i (entrySize t) in
-      let rest : 512 - i * entrySize t - 8 ≡ 8 + t + (512 - (i + 1) * entrySize t) = omega arith in
+      let left : 512 - i * entrySize t - 8 ≡ 8 + t + (512 - (i + 1) * entrySize t) = omega arith in
+      let zeros : drop 8 (replicate {A = ℕ} (512 - i * entrySize t) 0) ≡ replicate (8 + t) 0 ++ replicate (512 - (i + 1) * entrySize t) 0 =
+      drop-replicate 8 (512 - i * entrySize t) 0 (omega arith) ∙ ap (λ (k : ℕ). replicate k 0) left
+      ∙ sym (replicate-append-replicate (8 + t) (512 - (i + 1) * entrySize t) 0) in
       e′ ∙ ap (λ (x : List ℕ). patch x (i * entrySize t) (le 8 unused)) e
       ∙ patch-behind (collect i (λ j. emptyEntry t)) (replicate (512 - i * entrySize t) 0) (le 8 unused) (i * entrySize t) entries-length
-      ∙ ap (λ (x : List ℕ). collect i (λ j. emptyEntry t) ++ (le 8 unused ++ x))
-      (drop-replicate 8 (512 - i * entrySize t) 0 (omega arith) ∙ ap (λ (k : ℕ). replicate k 0) rest
-      ∙ sym (replicate-append-replicate (8 + t) (512 - (i + 1) * entrySize t) 0))
+      ∙ ap (λ (x : List ℕ). collect i (λ j. emptyEntry t) ++ (le 8 unused ++ x)) zeros
       ∙ sym (append-assoc (collect i (λ j. emptyEntry t)) (emptyEntry t) (replicate (512 - (i + 1) * entrySize t) 0))
       ∙ ap (λ (k : ℕ). collect k (λ j. emptyEntry t) ++ replicate (512 - (i + 1) * entrySize t) 0) (sym (add-one i))
 
