@@ -1,5 +1,4 @@
 -- Loops over the sectors of a section and over the sections of a journal: what each has found.
--- the greatest of one number more
 use Prim.Native.Nat.{ℕ, zero, suc, _+_, _-_, _≤_, _<_, max}
 use mathlib.Core.Bool.{Bool, true, false, not}
 use mathlib.Core.List.{List}
@@ -18,6 +17,7 @@ use Rattle.model.specs.Open.{misplaced, firstBelow}
 use Rattle.model.specs.declared.Layout.{Layout}
 use Rattle.model.proofs.Journals.{all-below, below-all, whole-all, whole-not}
 
+-- the greatest of one number more
 pub greatest-more : (n top x y : ℕ) (f : ℕ → ℕ) → top ≡ greatest n f → x ≡ f n → y ≡ max top x → y ≡ greatest (n + 1) f
 greatest-more n top x y f e q r = rw add-one (r ∙ ap (λ (z : ℕ). max z x) e ∙ ap (max (greatest n f)) q)
 

@@ -42,6 +42,8 @@ pub const METADATA_SIZE: usize = 8;
 
 const ENTRIES_SIZE: usize = 496;
 
+// ---- ranges
+
 // Whether a loan is a volume: whole sectors, and not over the limit.
 pub fn volume_loan_ok(v: &[u8]) -> bool
     ensures { λ r. ⌜ r ≡ volumeLoanOk (now (v .entry)) ⌝ }
@@ -120,7 +122,7 @@ pub fn run_length(g: Layout) -> usize
     1 << g.shift
 }
 
-// A, the size of a run's tag area.
+// A, the size of a run's tag area: 8 × ceil(N × T / 4096).
 pub fn tag_area(g: Layout) -> usize
     requires { ⌜ layoutOk g ≡ true ⌝ }
     ensures { λ r. ⌜ (r ≡ tagArea g) × (r ≤ 2 ^ 11) ⌝ }

@@ -17,19 +17,19 @@ pub struct Location {
 
 // Sections in replay order: their numbers, and how many there are.
 pub struct Order {
-    pub sections: [usize; 64],
+    pub sections: [usize; layout::MOST_SECTIONS],
     pub count: usize,
 }
 
 // The stores of each section of an order, and of all of them.
 pub struct Stores {
-    pub each: [usize; 64],
+    pub each: [usize; layout::MOST_SECTIONS],
     pub total: usize,
 }
 
 // What is kept of a journal: the id of each whole section, 0 for one that is not whole; the sections to be replayed; their stores.
 pub struct Scan {
-    pub ids: [u64; 64],
+    pub ids: [u64; layout::MOST_SECTIONS],
     pub order: Order,
     pub stores: Stores,
 }

@@ -21,11 +21,11 @@ ghost use Rattle.journal.specs.Scan.{Locates};
 pub const UNUSED: u64 = 18446744073709551615;
 
 // The bytes of a commit id, and of a logical sector.
-const NUMBER_SIZE: usize = 8;
+pub const NUMBER_SIZE: usize = 8;
 
 // The byte of a journal sector at which its commit id starts. A data sector has so many bytes of its entry's data; the last ones, up to the end of a
 // sector, stand in the entry.
-const ID_AT: usize = 504;
+pub const ID_AT: usize = 504;
 
 // Where the last data bytes and the tag start in an entry; its logical sector comes first.
 const LAST_AT: usize = 8;
@@ -117,13 +117,13 @@ pub fn put_entry(section: &mut [u8], t: usize, i: usize, sector: usize, bytes: &
 // ---- an empty section
 
 // A metadata sector without a used entry, its id zero.
-fn empty_metadata(t: usize) -> [u8; 512]
+fn empty_metadata(t: usize) -> [u8; SECTOR_SIZE]
     requires { ⌜ t ≤ 32 ⌝ }
     ensures { λ r. ⌜ (r ≡ emptySector t 0) × (length r ≡ sectorSize) ⌝ }
 {
     let per = layout::per_sector(t);
     let entry = layout::entry_size(t);
-    let mut sector = [0u8; 512];
+    let mut sector = [0u8; SECTOR_SIZE];
     let mut i = 0;
     while i < per {
         octets::put_number(&mut sector, i * entry, NUMBER_SIZE, UNUSED);

@@ -22,28 +22,33 @@ loop-holds c = (c .before .per-sector .ensures .0, omega arith, c .entry-size .e
 
 mul-put-number : tie.Need-mul-put-number Inv-loop μ-loop
 mul-put-number c =
+    let start = c .before .before .before .before .before in
     let turn = c .before .before .loop in
-    let at : turn .i * c .before .before .before .entry-size .result ≡ turn .i * entrySize (c .before .before .before .before .before .args .t) = ap (λ (n : ℕ). turn .i * n) (turn .inv .2) in
-    let room = mark-room (c .before .before .before .before .before .args .t) (turn .i) (omega arith) in
+    let at : turn .i * c .before .before .before .entry-size .result ≡ turn .i * entrySize (start .args .t) = ap (λ (n : ℕ). turn .i * n) (turn .inv .2) in
+    let room = mark-room (start .args .t) (turn .i) (omega arith) in
     record { fits = omega arith }
 
 put-number-requires : tie.Need-put-number-requires Inv-loop μ-loop
 put-number-requires c κs =
+    let start = c .before .before .before .before .before in
     let turn = c .before .before .loop in
-    let at : turn .i * c .before .before .before .entry-size .result ≡ turn .i * entrySize (c .before .before .before .before .before .args .t) = ap (λ (n : ℕ). turn .i * n) (turn .inv .2) in
-    let room = mark-room (c .before .before .before .before .before .args .t) (turn .i) (omega arith) in
+    let at : turn .i * c .before .before .before .entry-size .result ≡ turn .i * entrySize (start .args .t) = ap (λ (n : ℕ). turn .i * n) (turn .inv .2) in
+    let room = mark-room (start .args .t) (turn .i) (omega arith) in
     omega (arith, turn .inv .5)
 
 loop-again : tie.Need-loop-again Inv-loop μ-loop
 loop-again c =
+    let start = c .before .before .before .before .before .before .before in
     let turn = c .before .before .before .before .loop in
-    let at : turn .i * c .before .before .before .before .before .entry-size .result ≡ turn .i * entrySize (c .before .before .before .before .before .before .before .args .t) = ap (λ (n : ℕ). turn .i * n) (turn .inv .2) in
-    let room = mark-room (c .before .before .before .before .before .before .before .args .t) (turn .i) (omega arith) in
-    let next = mark (c .before .before .before .before .before .before .before .args .t) (turn .i) (turn .sector) (c .before .put-number .last .0) (omega arith) (turn .inv .4) (c .before .put-number .ensures ∙ ap (λ (n : ℕ). patch (turn .sector) n (le 8 unused)) at) in
+    let at : turn .i * c .before .before .before .before .before .entry-size .result ≡ turn .i * entrySize (start .args .t) = ap (λ (n : ℕ). turn .i * n) (turn .inv .2) in
+    let room = mark-room (start .args .t) (turn .i) (omega arith) in
+    let next = mark (start .args .t) (turn .i) (turn .sector) (c .before .put-number .last .0) (omega arith) (turn .inv .4) (c .before .put-number .ensures ∙ ap (λ (n : ℕ). patch (turn .sector) n (le 8 unused)) at) in
     (turn .inv .0, turn .inv .1, turn .inv .2, omega arith, next, c .before .put-number .kept .0 ∙ turn .inv .5)
 
 returns : tie.Need-returns Inv-loop μ-loop
-returns c = (all-marked (c .before .before .before .before .args .t) (c .before .loop .i) (c .before .loop .sector) (omega arith) (c .before .loop .inv .4), c .before .loop .inv .5)
+returns c =
+    let turn = c .before .loop in
+    (all-marked (c .before .before .before .before .args .t) (turn .i) (turn .sector) (omega arith) (turn .inv .4), turn .inv .5)
 
 pub empty-metadata-spec : {M : Type 1} → statement M
 empty-metadata-spec =
