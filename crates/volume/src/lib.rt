@@ -6,6 +6,6 @@ pub mod flush;
 pub mod format;
 pub mod read;
 mod state;
-pub mod step;
+mod step;
 mod tag;
 pub mod write;

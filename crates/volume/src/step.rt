@@ -1,13 +1,12 @@
 // Step: document 01, "Working a volume"; the model's specs/Step.antt. Each function makes exactly one sector store.
-use crate::state;
 use journal::journal as sections;
 use journal::layout;
 use journal::layout::SECTOR_SIZE;
-use journal::section;
+use journal::section::ID_AT;
+use journal::section::NUMBER_SIZE;
 use model::Done;
 use model::Layout;
 use model::Phase;
-use model::Refusal;
 use model::Says;
 use model::State;
 use model::StepAnswer;
@@ -45,8 +44,8 @@ fn commit_step(s: State, v: &mut [u8], st: &[u8], j: usize) -> Stepped
 {
     let g = s.layout;
     let at = layout::section_at(g, sections::section_for(g, s.id)) + j;
-    octets::copy_at(v, at * SECTOR_SIZE, st, j * SECTOR_SIZE, 504);
-    octets::put_number(v, at * SECTOR_SIZE + 504, 8, s.id);
+    octets::copy_at(v, at * SECTOR_SIZE, st, j * SECTOR_SIZE, ID_AT);
+    octets::put_number(v, at * SECTOR_SIZE + ID_AT, NUMBER_SIZE, s.id);
     if j + 1 < layout::section_size(g.width) {
         let next = State {
             layout: g,
