@@ -1,19 +1,28 @@
 -- The loops that make a section empty: what each has written so far.
--- ---- a metadata sector: i entries are marked as unused, the rest is zero
 use Prim.Native.Nat.{ℕ, suc, _+_, _-_, _*_, _≤_, _<_}
 use mathlib.Core.List.{List, _++_, append-assoc}
-use mathlib.Core.Path.{_≡_, refl, sym, ap, _∙_}
+use mathlib.Core.Path.{_≡_, refl, sym, ap, _∙_, subst}
 use native.Mathlib.Nat.{mul-comm, suc-mul, mul-le-mul-right, div-add-mod'}
 use native.Mathlib.Numerals.{add-one}
 use native.Mathlib.Omega.{arith}
 use lib.ListN.{length, take, drop, replicate, length-append, length-replicate, replicate-append-replicate}
 use lib.Seq.{take-at, drop-append-add, take-all}
 use borrow.Author.Tests.{lt-ltb, le-ltb}
+use Rattle.octets.specs.Numbers.{le}
 use Rattle.octets.specs.Parts.{part, patch}
 use Rattle.octets.proofs.Parts.{length-patch, take-patch, drop-replicate}
 use Rattle.model.specs.Layout.{entrySize, perSector}
-use Rattle.model.specs.Section.{collect, emptyEntry, emptySector}
+use Rattle.model.specs.Section.{unused, collect, emptyEntry, emptySector}
 use Rattle.model.proofs.Sections.{length-collect}
+
+-- a patch that starts where the first of two lists ends
+patch-behind : (a b x : List ℕ) (at : ℕ) → length a ≡ at → patch (a ++ b) at x ≡ a ++ (x ++ drop (length x) b)
+patch-behind a b x at e =
+    let back : drop (at + length x) (a ++ b) ≡ drop (length x) b =
+    subst (λ (n : ℕ). drop (n + length x) (a ++ b) ≡ drop (length x) b) e (drop-append-add a b (length x)) in
+    rw (take-at a b at e, back)
+
+-- ---- a metadata sector: i entries are marked as unused, the rest is zero
 
 abbrev pub marked : ℕ → ℕ → List ℕ
 marked t i = collect i (λ j. emptyEntry t) ++ replicate (512 - i * entrySize t) 0
@@ -32,21 +41,17 @@ module _ (t i : ℕ) where
       let h : suc i * entrySize t ≤ perSector t * entrySize t = mul-le-mul-right (entrySize t) l in
       omega (arith, suc-mul i (entrySize t), div-add-mod' 496 (entrySize t))
 
-  pub mark : (r r′ : List ℕ) → i * entrySize t + entrySize t ≤ 512 → r ≡ marked t i → r′ ≡ patch r (i * entrySize t) (replicate 8 255)
+  pub mark : (r r′ : List ℕ) → i * entrySize t + entrySize t ≤ 512 → r ≡ marked t i → r′ ≡ patch r (i * entrySize t) (le 8 unused)
       → r′ ≡ marked t (i + 1)
   mark r r′ h e e′ =
-      let z : List ℕ = replicate (512 - i * entrySize t) 0 in
       let next : (i + 1) * entrySize t ≡ i * entrySize t + entrySize t = ap (λ (k : ℕ). k * entrySize t) (add-one i) ∙ suc-mul i (entrySize t) in
-      let rest : 512 - i * entrySize t - 8 ≡ 8 + t + (512 - (i + 1) * entrySize t) = omega arith in
-      let front : take (i * entrySize t) (marked t i) ≡ collect i (λ j. emptyEntry t) =
-      take-at (collect i (λ j. emptyEntry t)) z (i * entrySize t) entries-length in
-      let back : drop (i * entrySize t + 8) (marked t i) ≡ drop 8 z =
-      ap (λ (k : ℕ). drop (k + 8) (marked t i)) (sym entries-length) ∙ drop-append-add (collect i (λ j. emptyEntry t)) z 8 in
-      e′ ∙ ap (λ (x : List ℕ). patch x (i * entrySize t) (replicate 8 255)) e
-      ∙ ap (λ (x : List ℕ). x ++ (replicate 8 255 ++ drop (i * entrySize t + 8) (marked t i))) front
-      ∙ ap (λ (x : List ℕ). collect i (λ j. emptyEntry t) ++ (replicate 8 255 ++ x))
-      (back ∙ drop-replicate 8 (512 - i * entrySize t) 0 (omega arith) ∙ ap (λ (k : ℕ). replicate k 0) rest
-      ∙ sym (replicate-append-replicate (8 + t) (512 - (i + 1) * entrySize t) 0))
+      let left : 512 - i * entrySize t - 8 ≡ 8 + t + (512 - (i + 1) * entrySize t) = omega arith in
+      let zeros : drop 8 (replicate {A = ℕ} (512 - i * entrySize t) 0) ≡ replicate (8 + t) 0 ++ replicate (512 - (i + 1) * entrySize t) 0 =
+      drop-replicate 8 (512 - i * entrySize t) 0 (omega arith) ∙ ap (λ (k : ℕ). replicate k 0) left
+      ∙ sym (replicate-append-replicate (8 + t) (512 - (i + 1) * entrySize t) 0) in
+      e′ ∙ ap (λ (x : List ℕ). patch x (i * entrySize t) (le 8 unused)) e
+      ∙ patch-behind (collect i (λ j. emptyEntry t)) (replicate (512 - i * entrySize t) 0) (le 8 unused) (i * entrySize t) entries-length
+      ∙ ap (λ (x : List ℕ). collect i (λ j. emptyEntry t) ++ (le 8 unused ++ x)) zeros
       ∙ sym (append-assoc (collect i (λ j. emptyEntry t)) (emptyEntry t) (replicate (512 - (i + 1) * entrySize t) 0))
       ∙ ap (λ (k : ℕ). collect k (λ j. emptyEntry t) ++ replicate (512 - (i + 1) * entrySize t) 0) (sym (add-one i))
 

@@ -1,7 +1,7 @@
 -- An entry by its bytes in a section: read part by part, and put in part by part.
-use Prim.Native.Nat.{ℕ, _+_, _*_, _≤_, _<_}
+use Prim.Native.Nat.{ℕ, _+_, _*_, _/_, _%_, _≤_, _<_}
 use mathlib.Core.List.{List, _++_, append-assoc}
-use mathlib.Core.Path.{_≡_, sym, ap, _∙_}
+use mathlib.Core.Path.{_≡_, refl, sym, ap, _∙_}
 use native.Mathlib.Omega.{arith}
 use lib.ListN.{length, take, drop, length-append, length-drop}
 use lib.Seq.{take-all, take-take, length-take-le}
@@ -11,7 +11,7 @@ use Rattle.octets.specs.Sectors.{sectorAt, putSector}
 use Rattle.octets.proofs.Numbers.{length-le}
 use Rattle.octets.proofs.Parts.{length-part, length-patch, part-part, patch-join, patch-all}
 use Rattle.octets.proofs.Sectors.{put-inside, sector-put-other}
-use Rattle.model.specs.Layout.{entrySize, entryCount, sectionSize}
+use Rattle.model.specs.Layout.{entrySize, perSector, entryCount, sectionSize}
 use Rattle.model.specs.Section.{idOf, metadataOf, entryOffset, entryOf, putEntry}
 use Rattle.model.proofs.Sections.{per-pos, entry-fits, entry-low}
 
@@ -29,6 +29,11 @@ module _ (t i : ℕ) (small : t ≤ 32) (l : i < entryCount t) where
 
   pub entry-end : entryOffset t i + entrySize t ≤ 496
   entry-end = entry-fits t (per-pos t (omega arith)) i
+
+  -- an address, as the code computes it
+  pub address : (per size : ℕ) → per ≡ perSector t → size ≡ entrySize t
+      → (i / per ≡ metadataOf t i) × (i / per ≤ 7) × (i % per * size ≡ entryOffset t i) × (i % per * size + entrySize t ≤ 496)
+  address per size p s = rw (p, s) (refl, metadata-high, refl, entry-end)
 
   module _ (sec : List ℕ) (at : ℕ) (start : at ≡ metadataOf t i * 512 + entryOffset t i) where
     -- bytes of the entry, in its metadata sector

@@ -1,5 +1,4 @@
 -- The fields of a superblock: it is valid where the bytes that hold no number are the fixed ones.
--- ---- bytes that are all zero
 use Prim.Native.Nat.{ℕ, _+_, _%_, _≤_, _<_}
 use mathlib.Core.Bool.{Bool, true, false, _&&_}
 use mathlib.Core.List.{List, [], _∷_, _++_}
@@ -16,6 +15,8 @@ use Rattle.octets.proofs.Parts.{length-part, patch-join, patch-all, eq-same, ne
 use Rattle.model.specs.Layout.{layoutOk}
 use Rattle.model.specs.Superblock.{magic, superblockOf, layoutIn, isZero, superblockOk}
 use Rattle.model.specs.declared.Layout.{Layout}
+
+-- ---- bytes that are all zero
 
 pub zero-all : (b : List ℕ) → ((i : ℕ) → i < length b → getD b i 0 ≡ 0) → true ≡ isZero b
 zero-all b h =

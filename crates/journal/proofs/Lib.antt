@@ -3,5 +3,8 @@ pub mod Slices
 pub mod Fields
 pub mod Entries
 pub mod Clearing
-pub mod Stores
+pub mod Counts
 pub mod Scans
+pub mod Tables
+pub mod Ordering
+pub mod Lookups

@@ -1,10 +1,96 @@
--- Loops over the sectors of a section and over the sections of a journal: what each has found so far.
+-- Loops over the sectors of a section and over the sections of a journal: what each has found.
 use Prim.Native.Nat.{ℕ, zero, suc, _+_, _-_, _≤_, _<_, max}
+use mathlib.Core.Bool.{Bool, true, false, not}
+use mathlib.Core.List.{List}
+use mathlib.Core.Logic.{_≢_}
 use mathlib.Core.Path.{_≡_, refl, sym, ap, _∙_}
+use native.Mathlib.Decide.{decLt}
 use native.Mathlib.Numerals.{add-one}
 use native.Mathlib.Omega.{arith}
-use Rattle.model.specs.Section.{greatest}
+use borrow.Author.Tests.{eq-eqb, ne-eqb}
+use Rattle.octets.specs.Choice.{pick}
+use Rattle.octets.specs.Sectors.{sectorAt}
+use Rattle.model.specs.Layout.{sectionSize}
+use Rattle.model.specs.Section.{idOf, greatest, wholeId, allBelow}
+use Rattle.model.specs.Journal.{sectionOf, sectionFor, wholeIds}
+use Rattle.model.specs.Open.{misplaced, firstBelow}
+use Rattle.model.specs.declared.Layout.{Layout}
+use Rattle.model.proofs.Journals.{all-below, below-all, whole-all, whole-not}
 
 -- the greatest of one number more
 pub greatest-more : (n top x y : ℕ) (f : ℕ → ℕ) → top ≡ greatest n f → x ≡ f n → y ≡ max top x → y ≡ greatest (n + 1) f
 greatest-more n top x y f e q r = rw add-one (r ∙ ap (λ (z : ℕ). max z x) e ∙ ap (max (greatest n f)) q)
+
+-- ---- the scan of a section, left at the first sector whose id differs from that of sector 0
+
+module _ (g : Layout) (v : List ℕ) (k : ℕ) (sec : List ℕ) (is : sec ≡ sectionOf g v k) (j id : ℕ) (same : (i : ℕ) → i < j → idOf (sectorAt sec i) ≡ id) where
+  pub whole : j ≡ sectionSize (g .width) → id ≡ wholeIds g v k
+  whole e = sym (ap (wholeId (g .width)) (sym is) ∙ whole-all (g .width) sec id (λ i l. same i (omega arith)))
+
+  pub torn : 0 < j → j < sectionSize (g .width) → idOf (sectorAt sec j) ≢ id → wholeIds g v k ≡ 0
+  torn p l n = ap (wholeId (g .width)) (sym is) ∙ whole-not (g .width) sec j l (λ q. n (q ∙ same 0 p))
+
+-- ---- the first number of which f holds
+
+module _ (f : ℕ → Bool) where
+  abbrev fails : ℕ → Bool
+  fails k = not (f k)
+
+  pub first-none : (n : ℕ) → ((i : ℕ) → i < n → f i ≡ false) → firstBelow (suc n) f ≡ n
+  first-none n h = rw (all-below n fails (λ i l. ap not (h i l)))
+
+  pub first-at : (n k : ℕ) → k < n → f k ≡ true → ((i : ℕ) → i < k → f i ≡ false) → firstBelow n f ≡ k
+  first-at zero k l t h = absurd (omega arith)
+  first-at (suc n) k l t h = go (decLt k n) (λ q. first-at n k q t h)
+    where
+      not-all : k < n → (b : Bool) → allBelow n fails ≡ b → pick b n (firstBelow n f) ≡ firstBelow n f
+      not-all q false e = refl
+      not-all q true e =
+          let z : not true ≡ true = ap not (sym t) ∙ below-all n fails e k q in
+          absurd (let y : _≡_ {A = ℕ} 0 1 = cc in omega arith)
+
+      go : Dec (k < n) → (k < n → firstBelow n f ≡ k) → firstBelow (suc n) f ≡ k
+      go (yes q) ih = not-all q (allBelow n fails) refl ∙ ih q
+      go (no q) ih =
+          let e : k ≡ n = omega arith in
+          first-none n (λ i m. h i (omega arith)) ∙ sym e
+
+  first-high : (n : ℕ) → firstBelow n f ≤ n - 1
+  first-high zero = omega arith
+  first-high (suc n) = go (allBelow n fails) (first-high n)
+    where
+      go : (b : Bool) → firstBelow n f ≤ n - 1 → pick b n (firstBelow n f) ≤ suc n - 1
+      go true h = omega arith
+      go false h = omega arith
+
+  -- with one number more, which f is not asked of: the first, or n where f holds of none
+  module _ (n r : ℕ) (e : r ≡ firstBelow (suc n) f) where
+    pub some-below : r < n → (allBelow n fails ≡ false) × (r ≡ firstBelow n f)
+    some-below l = go (allBelow n fails) refl e
+      where
+        go : (b : Bool) → allBelow n fails ≡ b → r ≡ pick b n (firstBelow n f) → (allBelow n fails ≡ false) × (r ≡ firstBelow n f)
+        go true q h = absurd (omega arith)
+        go false q h = (q, h)
+
+    pub none-below : 0 < n → n ≤ r → allBelow n fails ≡ true
+    none-below p l = go (allBelow n fails) refl e
+      where
+        go : (b : Bool) → allBelow n fails ≡ b → r ≡ pick b n (firstBelow n f) → allBelow n fails ≡ true
+        go true q h = q
+        go false q h = absurd (omega (arith, first-high n))
+
+-- ---- a section in its place
+
+module _ (g : Layout) (v : List ℕ) (k id : ℕ) (is : id ≡ wholeIds g v k) where
+  pub not-misplaced : id ≡ 0 → misplaced g v k ≡ false
+  not-misplaced z = rw (eq-eqb (wholeIds g v k) 0 (sym is ∙ z))
+
+  module _ (r : ℕ) (at : r ≡ sectionFor g id) (nz : id ≢ 0) where
+    there : sectionFor g (wholeIds g v k) ≡ r
+    there = sym (at ∙ ap (sectionFor g) is)
+
+    pub in-place : r ≡ k → misplaced g v k ≡ false
+    in-place e = rw (ne-eqb (wholeIds g v k) 0 (λ z. nz (is ∙ z)), eq-eqb (sectionFor g (wholeIds g v k)) k (there ∙ e))
+
+    pub is-misplaced : r ≢ k → misplaced g v k ≡ true
+    is-misplaced n = rw (ne-eqb (wholeIds g v k) 0 (λ z. nz (is ∙ z)), ne-eqb (sectionFor g (wholeIds g v k)) k (λ z. n (sym there ∙ z)))

@@ -1,11 +1,77 @@
--- What the code keeps of a journal: document 01, "Working a volume", Step, "Recovering".
+-- What the code keeps of a journal that it has scanned, so that one scan serves many stores: document 01, "A journal section", its second paragraph,
+-- and "Working a volume", Step, "Recovering".
 --
--- placeOf t sec x : the place of a replay that x locates in the section sec
-use Prim.Native.Nat.{ℕ}
-use mathlib.Core.List.{List}
-use Rattle.model.specs.Section.{entryOf}
-use Rattle.model.specs.Store.{Place, storeOf}
+-- padded xs          : the numbers xs in a table: zeros behind them, up to the most sections
+-- upTo n f           : f 0, f 1, .. f (n - 1)
+-- Oldest ids n r     : of the sections below n whose id is not 0, r comes first in replay order; r is n where there is none
+-- placesIn xs        : the numbers of the sections xs
+-- dueSections g v    : the sections to be replayed, in replay order
+-- orderOf ks         : the sections ks, in a table
+-- sectionStores g v k : how many stores bring the used entries of section k home
+-- storesFor g v ks   : the same of each section of ks, in a table, and of all of them
+-- scanOf g v         : the scan of the volume v
+-- placeOf t sec x    : the place of a replay that x names in the section sec
+-- Locates g sec x p  : in the section sec, x names the place p, with an entry and a store that there are
+use Prim.Native.Nat.{ℕ, _-_, _≤_, _<_}
+use mathlib.Core.List.{List, [], _∷_, _++_, map}
+use mathlib.Core.Logic.{_≢_}
+use mathlib.Core.Path.{_≡_}
+use lib.ListN.{length, replicate}
+use Rattle.model.specs.Layout.{mostSections, entryCount}
+use Rattle.model.specs.Section.{entryOf, collect}
+use Rattle.model.specs.Journal.{sectionOf, wholeIds, dueIds, Found, ordered, usedOf, replay}
+use Rattle.model.specs.Store.{homeCount, Place, storeOf, storesOf}
+use Rattle.model.specs.declared.Layout.{Layout}
 use Rattle.journal.specs.declared.Location.{Location}
+use Rattle.journal.specs.declared.Order.{Order}
+use Rattle.journal.specs.declared.Scan.{Scan}
+use Rattle.journal.specs.declared.Stores.{Stores}
+
+-- ---- tables
+
+abbrev pub padded : List ℕ → List ℕ
+padded xs = xs ++ replicate (mostSections - length xs) 0
+
+abbrev pub upTo : ℕ → (ℕ → ℕ) → List ℕ
+upTo n f = collect n (λ k. f k ∷ [])
+
+-- ---- the sections in replay order: "by rising id, then section"
+
+pub data Oldest (ids : ℕ → ℕ) (n r : ℕ) : Type 0 where
+  none : r ≡ n → ((j : ℕ) → j < n → ids j ≡ 0) → Oldest ids n r
+  some : r < n → ids r ≢ 0 → ((j : ℕ) → j < n → ids j ≢ 0 → ids r ≤ ids j) → ((j : ℕ) → j < r → ids j ≢ 0 → ids r < ids j) → Oldest ids n r
+
+abbrev pub placesIn : List Found → List ℕ
+placesIn xs = map (λ x. x .place) xs
+
+abbrev pub orderOf : List ℕ → Order
+orderOf ks = record { sections = padded ks; count = length ks }
+
+unfoldable pub dueSections : Layout → List ℕ → List ℕ
+dueSections g v = placesIn (ordered (g .sections) (dueIds g v))
+
+-- ---- a scan
+
+abbrev pub sectionStores : Layout → List ℕ → ℕ → ℕ
+sectionStores g v k = storesOf g (usedOf (g .width) k (sectionOf g v k))
+
+abbrev pub storesFor : Layout → List ℕ → List ℕ → Stores
+storesFor g v ks = record { each = padded (map (sectionStores g v) ks); total = storesOf g (replay g v) }
+
+unfoldable pub scanOf : Layout → List ℕ → Scan
+scanOf g v =
+    record {
+      ids = padded (upTo (g .sections) (wholeIds g v));
+      order = orderOf (dueSections g v);
+      stores = storesFor g v (dueSections g v);
+    }
+
+-- ---- a place of the replay
 
 abbrev pub placeOf : ℕ → List ℕ → Location → Place
 placeOf t sec x = storeOf (record { section = x .section; place = x .entry; entry = entryOf t sec (x .entry) }) (x .store)
+
+pub record Locates (g : Layout) (sec : List ℕ) (x : Location) (p : Place) : Type 0 where
+  pub place : placeOf (g .width) sec x ≡ p
+  pub entry : x .entry < entryCount (g .width)
+  pub store : x .store < homeCount g (entryOf (g .width) sec (x .entry))

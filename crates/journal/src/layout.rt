@@ -8,7 +8,7 @@ ghost use mathlib.Core.Bool.{true};
 ghost use mathlib.Core.Path.{_≡_};
 ghost use Prim.Native.Nat.{_*_, _^_, _≤_, _<_};
 ghost use lib.ListN.{length};
-ghost use Rattle.model.specs.Layout.{entryCount, perSector, sectionSize, sectionAt, runLength, tagArea, runAt, dataAt, tagByte, needed, widthOk, layoutOk};
+ghost use Rattle.model.specs.Layout.{entrySize, perSector, entryCount, sectionSize, sectionAt, runLength, tagArea, runAt, dataAt, tagByte, needed, widthOk, layoutOk};
 ghost use Rattle.model.specs.State.{volumeLoanOk};
 
 // ---- limits
@@ -37,8 +37,12 @@ pub const SECTOR_SIZE: usize = 512;
 
 pub const SUPERBLOCK_SIZE: usize = 8;
 
-// The metadata sectors of a section.
+// The metadata sectors of a section, and the bytes of one that entries may fill.
 pub const METADATA_SIZE: usize = 8;
+
+const ENTRIES_SIZE: usize = 496;
+
+// ---- ranges
 
 // Whether a loan is a volume: whole sectors, and not over the limit.
 pub fn volume_loan_ok(v: &[u8]) -> bool
@@ -68,12 +72,20 @@ pub fn layout_ok(g: Layout) -> bool
 
 // ---- a section
 
+// The bytes of a journal entry: its logical sector, its last data bytes and its tag.
+pub fn entry_size(t: usize) -> usize
+    requires { ⌜ t ≤ 32 ⌝ }
+    ensures { λ r. ⌜ (r ≡ entrySize t) × (r ≤ 48) ⌝ }
+{
+    8 + 8 + t
+}
+
 // The entries in a metadata sector.
 pub fn per_sector(t: usize) -> usize
     requires { ⌜ t ≤ 32 ⌝ }
     ensures { λ r. ⌜ (r ≡ perSector t) × (0 < r) × (r ≤ 31) ⌝ }
 {
-    496 / (16 + t)
+    ENTRIES_SIZE / entry_size(t)
 }
 
 // E, the entries of a section.
@@ -110,7 +122,7 @@ pub fn run_length(g: Layout) -> usize
     1 << g.shift
 }
 
-// A, the size of a run's tag area.
+// A, the size of a run's tag area: 8 × ceil(N × T / 4096).
 pub fn tag_area(g: Layout) -> usize
     requires { ⌜ layoutOk g ≡ true ⌝ }
     ensures { λ r. ⌜ (r ≡ tagArea g) × (r ≤ 2 ^ 11) ⌝ }

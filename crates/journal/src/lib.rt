@@ -3,6 +3,7 @@
 //
 // These are functions for the crates of this repository. The calls of crate volume test loans and layout once; so a function here may have a
 // `requires`, and every caller shows it.
+pub mod journal;
 pub mod layout;
 pub mod section;
 pub mod superblock;
@@ -12,4 +13,23 @@ pub struct Location {
     pub section: usize,
     pub entry: usize,
     pub store: usize,
+}
+
+// Sections in replay order: their numbers, and how many there are.
+pub struct Order {
+    pub sections: [usize; layout::MOST_SECTIONS],
+    pub count: usize,
+}
+
+// The stores of each section of an order, and of all of them.
+pub struct Stores {
+    pub each: [usize; layout::MOST_SECTIONS],
+    pub total: usize,
+}
+
+// What is kept of a journal: the id of each whole section, 0 for one that is not whole; the sections to be replayed; their stores.
+pub struct Scan {
+    pub ids: [u64; layout::MOST_SECTIONS],
+    pub order: Order,
+    pub stores: Stores,
 }

@@ -13,18 +13,21 @@ ghost use Rattle.octets.specs.Sectors.{sectorSize, sectorAt};
 ghost use Rattle.model.specs.Layout.{entrySize, entryCount, sectionSize, layoutOk};
 ghost use Rattle.model.specs.Section.{idOf, metadataOf, entryOffset, entryOf, putEntry, greatestIn, emptySector, emptySection};
 ghost use Rattle.model.specs.Journal.{usedOf};
-ghost use Rattle.model.specs.Store.{homeCount, plan, storesOf};
+ghost use Rattle.model.specs.Store.{plan, storesOf};
 ghost use Rattle.model.specs.Step.{noPlace};
-ghost use Rattle.journal.specs.Scan.{placeOf};
+ghost use Rattle.journal.specs.Scan.{Locates};
 
 // The logical sector of an unused entry.
 pub const UNUSED: u64 = 18446744073709551615;
 
-// The byte of a journal sector at which its commit id starts. A data sector holds so many bytes of its entry's data; the others, up to the end of a
-// sector, stand in the entry.
-const ID_AT: usize = 504;
+// The bytes of a commit id, and of a logical sector.
+pub const NUMBER_SIZE: usize = 8;
 
-// Where the last data bytes and the tag start in an entry, and the entry's bytes but its tag.
+// The byte of a journal sector at which its commit id starts. A data sector has so many bytes of its entry's data; the last ones, up to the end of a
+// sector, stand in the entry.
+pub const ID_AT: usize = 504;
+
+// Where the last data bytes and the tag start in an entry; its logical sector comes first.
 const LAST_AT: usize = 8;
 
 const TAG_AT: usize = 16;
@@ -39,7 +42,7 @@ pub fn id_at(section: &[u8], j: usize) -> u64
     requires { ⌜ (j + 1) * sectorSize ≤ length (now section) ⌝ }
     ensures { λ r. ⌜ r ≡ idOf (sectorAt (now (section .entry)) j) ⌝ }
 {
-    octets::number(section, j * SECTOR_SIZE + ID_AT, 8)
+    octets::number(section, j * SECTOR_SIZE + ID_AT, NUMBER_SIZE)
 }
 
 // The greatest id on any sector.
@@ -68,7 +71,7 @@ fn entry_at(t: usize, i: usize) -> usize
     ensures { λ r. ⌜ (r ≡ metadataOf t i * sectorSize + entryOffset t i) × (r + entrySize t ≤ 8 * sectorSize) ⌝ }
 {
     let per = layout::per_sector(t);
-    i / per * SECTOR_SIZE + i % per * (TAG_AT + t)
+    i / per * SECTOR_SIZE + i % per * layout::entry_size(t)
 }
 
 // The logical sector of entry i.
@@ -76,7 +79,7 @@ pub fn entry_sector(section: &[u8], t: usize, i: usize) -> u64
     requires { ⌜ (t ≤ 32) × (i < entryCount t) × (length (now section) ≡ sectionSize t * sectorSize) ⌝ }
     ensures { λ r. ⌜ r ≡ entryOf t (now (section .entry)) i .sector ⌝ }
 {
-    octets::number(section, entry_at(t, i), 8)
+    octets::number(section, entry_at(t, i), NUMBER_SIZE)
 }
 
 // The tag of entry i, where it stands.
@@ -105,7 +108,7 @@ pub fn put_entry(section: &mut [u8], t: usize, i: usize, sector: usize, bytes: &
     ensures { λ r. ⌜ now (section .exit) ≡ putEntry t (now (section .entry)) i (record { sector = sector; bytes = now (bytes .entry); tag = take t (now (tag .entry)) }) ⌝ }
 {
     let at = entry_at(t, i);
-    octets::put_number(section, at, 8, sector as u64);
+    octets::put_number(section, at, NUMBER_SIZE, sector as u64);
     octets::copy_at(section, at + LAST_AT, bytes, ID_AT, SECTOR_SIZE - ID_AT);
     octets::copy_at(section, at + TAG_AT, tag, 0, t);
     octets::copy_at(section, (METADATA_SIZE + i) * SECTOR_SIZE, bytes, 0, ID_AT);
@@ -114,16 +117,16 @@ pub fn put_entry(section: &mut [u8], t: usize, i: usize, sector: usize, bytes: &
 // ---- an empty section
 
 // A metadata sector without a used entry, its id zero.
-fn empty_metadata(t: usize) -> [u8; 512]
+fn empty_metadata(t: usize) -> [u8; SECTOR_SIZE]
     requires { ⌜ t ≤ 32 ⌝ }
     ensures { λ r. ⌜ (r ≡ emptySector t 0) × (length r ≡ sectorSize) ⌝ }
 {
     let per = layout::per_sector(t);
-    let entry = TAG_AT + t;
-    let mut sector = [0u8; 512];
+    let entry = layout::entry_size(t);
+    let mut sector = [0u8; SECTOR_SIZE];
     let mut i = 0;
     while i < per {
-        octets::fill_at(&mut sector, i * entry, 8, 255);
+        octets::put_number(&mut sector, i * entry, NUMBER_SIZE, UNUSED);
         i += 1;
     }
     sector
@@ -169,7 +172,7 @@ pub fn stores_in(g: Layout, section: &[u8]) -> usize
 // Store n of section k.
 pub fn location_in(g: Layout, section: &[u8], k: usize, n: usize) -> Location
     requires { ⌜ (layoutOk g ≡ true) × (length (now section) ≡ sectionSize (g .width) * sectorSize) × (n < storesOf g (usedOf (g .width) k (now section))) ⌝ }
-    ensures { λ r. ⌜ (placeOf (g .width) (now (section .entry)) r ≡ getD (plan g (usedOf (g .width) k (now (section .entry)))) n noPlace) × (r .section ≡ k) × (r .entry < entryCount (g .width)) × (r .store < homeCount g (entryOf (g .width) (now (section .entry)) (r .entry))) ⌝ }
+    ensures { λ r. ⌜ Locates g (now (section .entry)) r (getD (plan g (usedOf (g .width) k (now (section .entry)))) n noPlace) × (r .section ≡ k) ⌝ }
 {
     let mut left = n;
     let mut i = 0;

@@ -13,8 +13,10 @@ ghost use Rattle.octets.specs.Sectors.{sectorSize};
 ghost use Rattle.model.specs.Layout.{superblockSize, layoutOk};
 ghost use Rattle.model.specs.Superblock.{superblockOf, superblockAt, layoutIn, isZero, superblockOk};
 
-// The bytes at which a volume is known.
+// The bytes by which a volume is known, compared at open and written by format.
 const MAGIC: [u8; 8] = *b"integrt\0";
+
+const MAGIC_SIZE: usize = 8;
 
 // So that a kernel, which knows versions up to 5, does not take the volume.
 const VERSION: u8 = 128;
@@ -76,7 +78,7 @@ pub fn superblock_ok(r: usize, b: &[u8]) -> bool
     ensures { λ ok. ⌜ ok ≡ superblockOk r (now (b .entry)) ⌝ }
 {
     let magic = MAGIC;
-    let known = octets::same_at(b, 0, &magic, 0, VERSION_AT);
+    let known = octets::same_at(b, 0, &magic, 0, MAGIC_SIZE);
     let zeros = is_zero(&b[ZEROS_AT..]);
     let in_range = layout::layout_ok(layout_in(r, b));
     known & (b[VERSION_AT] == VERSION) & zeros & in_range
@@ -88,7 +90,7 @@ pub fn put_superblock(b: &mut [u8], g: Layout)
     ensures { λ r. ⌜ now (b .exit) ≡ superblockOf g ⌝ }
 {
     let magic = MAGIC;
-    octets::copy_at(b, 0, &magic, 0, VERSION_AT);
+    octets::copy_at(b, 0, &magic, 0, MAGIC_SIZE);
     octets::put_number(b, VERSION_AT, 1, VERSION as u64);
     octets::put_number(b, SHIFT_AT, 1, g.shift as u64);
     octets::put_number(b, WIDTH_AT, 2, g.width as u64);

@@ -36,7 +36,7 @@ module _ (g : Layout) (R : Ranged g) (tag : Tag) (v : List ℕ) (room : needed g
   tag-fits : tagByte g (e .sector) + length (e .tag) ≤ length v
   tag-fits = omega (arith, tag-room g R (e .sector) low, tag-inside g R (e .sector), tag-sector g R (e .sector))
 
-  tag-store : made v (homeStore g v e 1) ≡ patch v (tagByte g (e .sector)) (e .tag)
+  pub tag-store : made v (homeStore g v e 1) ≡ patch v (tagByte g (e .sector)) (e .tag)
   tag-store =
       put-inside v (tagSector g (e .sector)) (tagOffset g (e .sector)) (e .tag)
       (omega (arith, tag-inside g R (e .sector))) (omega (arith, tag-room g R (e .sector) low))

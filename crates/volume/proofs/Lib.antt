@@ -4,3 +4,5 @@ pub mod Tags
 pub mod Flushes
 pub mod Formats
 pub mod Writes
+pub mod Steps
+pub mod Reading

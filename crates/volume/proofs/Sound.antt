@@ -1,17 +1,18 @@
 -- Tests of states, over plain values.
-use Prim.Native.Nat.{ℕ, _*_}
+use Prim.Native.Nat.{ℕ, _*_, _≤_, _<_}
 use mathlib.Core.Bool.{Bool, true, false, not, _&&_}
 use mathlib.Core.Path.{_≡_, refl}
 use mathlib.Core.List.{List}
 use lib.ListN.{length}
 use lib.Dec.{leb, ltb, eqb}
-use borrow.Author.Tests.{eqb-true}
+use borrow.Author.Tests.{eqb-true, leb-true, le-leb, lt-leb}
+use Rattle.model.proofs.Addresses.{and-both}
 use Rattle.model.specs.declared.Layout.{Layout}
 use Rattle.model.specs.declared.Phase.{Phase}
 use Rattle.model.specs.declared.Phase.the-variants.{Committing}
 use Rattle.model.specs.declared.State.{State}
-use Rattle.model.specs.Layout.{entryCount, sectionSize, layoutOk}
-use Rattle.model.specs.State.{lastId, placeOk, stateOk, stagingOk}
+use Rattle.model.specs.Layout.{entryCount, sectionSize, needed, layoutOk}
+use Rattle.model.specs.State.{lastId, placeOk, stateOk, stagingOk, volumeLoanOk, volumeOk, replayOk}
 
 pub place-committing : (g : Layout) (count id size : ℕ) (p : Phase) (j : ℕ) → size ≡ sectionSize (g .width) → p ≡ Committing j
     → ltb j size && (ltb 0 count && ltb id lastId) ≡ placeOk g count id p
@@ -38,3 +39,30 @@ state-layout s e = front (layoutOk (s .layout)) _ e
 pub staging-length : (g : Layout) (st : List ℕ) → stagingOk g st ≡ true → length st ≡ sectionSize (g .width) * 512
 unfolding stagingOk
 staging-length g st e = eqb-true (length st) (sectionSize (g .width) * 512) e
+
+pub state-count : (s : State) → stateOk s ≡ true → s .count ≤ entryCount (s .layout .width)
+unfolding stateOk
+state-count s e =
+    let a = and-both (layoutOk (s .layout)) _ e in
+    leb-true (s .count) (entryCount (s .layout .width)) (and-both (leb (s .count) (entryCount (s .layout .width))) _ (a .1) .0)
+
+-- ---- volumes
+
+pub volume-odd : (s : State) (v : List ℕ) → volumeLoanOk v ≡ false → false ≡ volumeOk s v
+unfolding volumeOk
+volume-odd s v e = rw e
+
+pub volume-short : (s : State) (v : List ℕ) → volumeLoanOk v ≡ true → length v < needed (s .layout) * 512 → false ≡ volumeOk s v
+unfolding volumeOk
+volume-short s v a e = rw (a, lt-leb (needed (s .layout) * 512) (length v) e)
+
+pub volume-long : (s : State) (v : List ℕ) (r : Bool) → volumeLoanOk v ≡ true → needed (s .layout) * 512 ≤ length v → r ≡ replayOk (s .layout) v (s .phase) → r ≡ volumeOk s v
+unfolding volumeOk
+volume-long s v r a b e = rw (a, le-leb (needed (s .layout) * 512) (length v) b, e)
+
+-- what a volume that passed is good for
+pub volume-room : (s : State) (v : List ℕ) → volumeOk s v ≡ true → needed (s .layout) * 512 ≤ length v
+unfolding volumeOk
+volume-room s v e =
+    let a = and-both (volumeLoanOk v) _ e in
+    leb-true (needed (s .layout) * 512) (length v) (and-both (leb (needed (s .layout) * 512) (length v)) _ (a .1) .0)

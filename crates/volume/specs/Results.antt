@@ -1,10 +1,32 @@
 -- What a call handed back and left in its loans, as one of the model's results.
 --
--- written w st   : write's, with the staging loan afterwards
-use Prim.Native.Nat.{ℕ}
+-- written w st             : write's, with the staging loan afterwards
+-- Leaves v o r v′ st′      : a step on the volume v handed back r and left the volume v′ and the staging loan st′, as its result o says
+-- entryOf3 n b t           : the entry for sector n with the bytes b and the tag t
+-- newestPlace t st d c n   : the place of the last of the first c staged entries for sector n; d where there is none
+use Prim.Native.Nat.{ℕ, zero, suc}
 use mathlib.Core.List.{List}
+use lib.Dec.{eqb}
+use Rattle.octets.specs.Choice.{pick}
+use mathlib.Core.Path.{_≡_}
+use Rattle.model.specs.Section.{Entry, entryOf}
+use Rattle.model.specs.Store.{afterEffect}
+use Rattle.model.specs.Step.{StepResult}
+use Rattle.model.specs.declared.Stepped.{Stepped}
 use Rattle.model.specs.declared.Written.{Written}
 use Rattle.model.specs.Write.{WriteResult}
 
 abbrev pub written : Written → List ℕ → WriteResult
 written w st = record { answer = w .answer; state = w .state; staging = st }
+
+pub record Leaves (v : List ℕ) (o : StepResult) (r : Stepped) (v′ st′ : List ℕ) : Type 0 where
+  pub returned : r ≡ record { answer = o .answer; state = o .state }
+  pub volume : v′ ≡ afterEffect v (o .effect)
+  pub staging : st′ ≡ o .staging
+
+abbrev pub entryOf3 : ℕ → List ℕ → List ℕ → Entry
+entryOf3 n b t = record { sector = n; bytes = b; tag = t }
+
+abbrev pub newestPlace : ℕ → List ℕ → ℕ → ℕ → ℕ → ℕ
+newestPlace t st d zero n = d
+newestPlace t st d (suc c) n = pick (eqb (entryOf t st c .sector) n) c (newestPlace t st d c n)

@@ -4,6 +4,8 @@
 // document 01's tag: answer, state and every lent byte afterwards. No call has a `requires`.
 pub mod flush;
 pub mod format;
+pub mod read;
 mod state;
+mod step;
 mod tag;
 pub mod write;

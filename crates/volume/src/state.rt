@@ -6,8 +6,12 @@ use model::Phase;
 use model::State;
 ghost use mathlib.Core.Bool.{true};
 ghost use mathlib.Core.Path.{_≡_};
-ghost use Rattle.model.specs.Layout.{layoutOk};
-ghost use Rattle.model.specs.State.{placeOk, stateOk, stagingOk, isFilling, isRecovering};
+ghost use Prim.Native.Nat.{_*_, _≤_};
+ghost use lib.ListN.{length};
+ghost use Rattle.model.specs.Layout.{needed, layoutOk};
+ghost use Rattle.model.specs.Journal.{replay};
+ghost use Rattle.model.specs.Store.{storesOf};
+ghost use Rattle.model.specs.State.{placeOk, stateOk, stagingOk, volumeOk, isFilling, isRecovering};
 
 // No commit may be given this id.
 pub(crate) const LAST_ID: u64 = 18446744073709551615;
@@ -68,4 +72,35 @@ pub(crate) fn is_recovering(p: Phase) -> bool
         Phase::WritingBack(_, _) => false,
         Phase::Recovering(_) => true,
     }
+}
+
+// Whether v is a volume that the layout fits, and on which the place of a sound state exists.
+pub(crate) fn volume_ok(s: State, v: &[u8]) -> bool
+    requires { ⌜ stateOk s ≡ true ⌝ }
+    ensures { λ r. ⌜ r ≡ volumeOk s (now (v .entry)) ⌝ }
+{
+    let g = s.layout;
+    if !layout::volume_loan_ok(v) {
+        return false;
+    }
+    if v.len() < layout::needed(g) * SECTOR_SIZE {
+        return false;
+    }
+    let p = s.phase;
+    match p {
+        Phase::Filling => true,
+        Phase::Committing(_) => true,
+        Phase::WritingBack(_, _) => true,
+        Phase::Recovering(k) => k < replay_stores(v, g),
+    }
+}
+
+// How many stores a replay of the volume's journal makes.
+fn replay_stores(v: &[u8], g: Layout) -> usize
+    requires { ⌜ (layoutOk g ≡ true) × (needed g * 512 ≤ length (now v)) ⌝ }
+    ensures { λ r. ⌜ r ≡ storesOf g (replay g (now (v .entry))) ⌝ }
+{
+    let found = journal::journal::scan(v, g);
+    let stores = found.stores;
+    stores.total
 }

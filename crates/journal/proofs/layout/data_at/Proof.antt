@@ -6,12 +6,14 @@ use Rattle.journal.proofs.layout.data_at.Tie as tie
 
 add-result-2 : tie.Need-add-result-2
 add-result-2 c =
-    let place = within (c .before .before .before .args .g) (c .before .before .before .pre .0) (c .run-length .result) (c .run-length .ensures .0) (c .before .before .before .args .s) in
+    let start = c .before .before .before in
+    let place = within (start .args .g) (start .pre .0) (c .run-length .result) (c .run-length .ensures .0) (start .args .s) in
     omega arith
 
 returns : tie.Need-returns
 returns c =
-    let place = within (c .before .before .before .args .g) (c .before .before .before .pre .0) (c .run-length .result) (c .run-length .ensures .0) (c .before .before .before .args .s) in
+    let start = c .before .before .before in
+    let place = within (start .args .g) (start .pre .0) (c .run-length .result) (c .run-length .ensures .0) (start .args .s) in
     omega arith
 
 pub data-at-spec : {M : Type 1} → statement M

@@ -5,10 +5,14 @@ use Rattle.journal.proofs.layout.needed.Statement.{statement}
 use Rattle.journal.proofs.layout.needed.Tie as tie
 
 sub-data-at : tie.Need-sub-data-at
-sub-data-at c = omega (arith, provided-low (c .before .args .g) (c .before .pre))
+sub-data-at c =
+    let start = c .before in
+    omega (arith, provided-low (start .args .g) (start .pre))
 
 data-at-requires : tie.Need-data-at-requires
-data-at-requires c κs = ((c .before .pre), omega (arith, provided-high (c .before .args .g) (c .before .pre)))
+data-at-requires c κs =
+    let start = c .before in
+    ((start .pre), omega (arith, provided-high (start .args .g) (start .pre)))
 
 pub needed-spec : {M : Type 1} → statement M
 needed-spec = tie.close (tie.spec sub-data-at data-at-requires (λ c. search needs) (λ c. search needs))

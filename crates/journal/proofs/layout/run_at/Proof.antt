@@ -6,17 +6,20 @@ use Rattle.journal.proofs.layout.run_at.Tie as tie
 
 mul-result : tie.Need-mul-result
 mul-result c =
-    let product = runs-product (c .before .before .before .args .g) (c .before .before .before .pre .0) (c .before .before .run-length .result) (c .before .before .run-length .ensures .0) (c .before .before .before .args .s) (c .tag-area .result) (c .tag-area .ensures .0) (c .tag-area .ensures .1) (c .before .before .before .pre .1) in
+    let start = c .before .before .before in
+    let product = runs-product (start .args .g) (start .pre .0) (c .before .before .run-length .result) (c .before .before .run-length .ensures .0) (start .args .s) (c .tag-area .result) (c .tag-area .ensures .0) (c .tag-area .ensures .1) (start .pre .1) in
     omega arith
 
 add-result-2 : tie.Need-add-result-2
 add-result-2 c =
-    let product = runs-product (c .before .before .before .args .g) (c .before .before .before .pre .0) (c .before .before .run-length .result) (c .before .before .run-length .ensures .0) (c .before .before .before .args .s) (c .tag-area .result) (c .tag-area .ensures .0) (c .tag-area .ensures .1) (c .before .before .before .pre .1) in
+    let start = c .before .before .before in
+    let product = runs-product (start .args .g) (start .pre .0) (c .before .before .run-length .result) (c .before .before .run-length .ensures .0) (start .args .s) (c .tag-area .result) (c .tag-area .ensures .0) (c .tag-area .ensures .1) (start .pre .1) in
     omega arith
 
 returns : tie.Need-returns
 returns c =
-    let product = runs-product (c .before .before .before .args .g) (c .before .before .before .pre .0) (c .before .before .run-length .result) (c .before .before .run-length .ensures .0) (c .before .before .before .args .s) (c .tag-area .result) (c .tag-area .ensures .0) (c .tag-area .ensures .1) (c .before .before .before .pre .1) in
+    let start = c .before .before .before in
+    let product = runs-product (start .args .g) (start .pre .0) (c .before .before .run-length .result) (c .before .before .run-length .ensures .0) (start .args .s) (c .tag-area .result) (c .tag-area .ensures .0) (c .tag-area .ensures .1) (start .pre .1) in
     omega arith
 
 pub run-at-spec : {M : Type 1} → statement M

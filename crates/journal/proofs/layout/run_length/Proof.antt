@@ -4,12 +4,15 @@ use Rattle.journal.proofs.layout.run_length.Statement.{statement}
 use Rattle.journal.proofs.layout.run_length.Tie as tie
 
 shl-result : tie.Need-shl-result
-shl-result c = omega (arith, shift-high (c .before .args .g) (c .before .pre))
+shl-result c =
+    let start = c .before in
+    omega (arith, shift-high (start .args .g) (start .pre))
 
 returns : tie.Need-returns
 returns c =
-    let low = run-low (c .before .args .g) (c .before .pre) in
-    let high = run-high (c .before .args .g) (c .before .pre) in
+    let start = c .before in
+    let low = run-low (start .args .g) (start .pre) in
+    let high = run-high (start .args .g) (start .pre) in
     omega arith
 
 pub run-length-spec : {M : Type 1} → statement M

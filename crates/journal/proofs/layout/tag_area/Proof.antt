@@ -6,22 +6,26 @@ use Rattle.journal.proofs.layout.tag_area.Tie as tie
 
 mul-result : tie.Need-mul-result
 mul-result c =
-    let product = tags-product (c .before .before .args .g) (c .before .before .pre) (c .before .run-length .result) (c .before .run-length .ensures .0) in
+    let start = c .before .before in
+    let product = tags-product (start .args .g) (start .pre) (c .before .run-length .result) (c .before .run-length .ensures .0) in
     omega arith
 
 add-result : tie.Need-add-result
 add-result c =
-    let product = tags-product (c .before .before .args .g) (c .before .before .pre) (c .before .run-length .result) (c .before .run-length .ensures .0) in
+    let start = c .before .before in
+    let product = tags-product (start .args .g) (start .pre) (c .before .run-length .result) (c .before .run-length .ensures .0) in
     omega arith
 
 mul-result-2 : tie.Need-mul-result-2
 mul-result-2 c =
-    let product = tags-product (c .before .before .args .g) (c .before .before .pre) (c .before .run-length .result) (c .before .run-length .ensures .0) in
+    let start = c .before .before in
+    let product = tags-product (start .args .g) (start .pre) (c .before .run-length .result) (c .before .run-length .ensures .0) in
     omega arith
 
 returns : tie.Need-returns
 returns c =
-    let product = tags-product (c .before .before .args .g) (c .before .before .pre) (c .before .run-length .result) (c .before .run-length .ensures .0) in
+    let start = c .before .before in
+    let product = tags-product (start .args .g) (start .pre) (c .before .run-length .result) (c .before .run-length .ensures .0) in
     omega arith
 
 pub tag-area-spec : {M : Type 1} → statement M

@@ -6,17 +6,20 @@ use Rattle.journal.proofs.layout.tag_byte.Tie as tie
 
 mul-result-2 : tie.Need-mul-result-2
 mul-result-2 c =
-    let product = place-product (c .before .before .before .args .g) (c .before .before .before .pre .0) (c .before .run-length .result) (c .before .run-length .ensures .0) (c .before .before .before .args .s) in
+    let start = c .before .before .before in
+    let product = place-product (start .args .g) (start .pre .0) (c .before .run-length .result) (c .before .run-length .ensures .0) (start .args .s) in
     omega arith
 
 add-result : tie.Need-add-result
 add-result c =
-    let product = place-product (c .before .before .before .args .g) (c .before .before .before .pre .0) (c .before .run-length .result) (c .before .run-length .ensures .0) (c .before .before .before .args .s) in
+    let start = c .before .before .before in
+    let product = place-product (start .args .g) (start .pre .0) (c .before .run-length .result) (c .before .run-length .ensures .0) (start .args .s) in
     omega arith
 
 returns : tie.Need-returns
 returns c =
-    let product = place-product (c .before .before .before .args .g) (c .before .before .before .pre .0) (c .before .run-length .result) (c .before .run-length .ensures .0) (c .before .before .before .args .s) in
+    let start = c .before .before .before in
+    let product = place-product (start .args .g) (start .pre .0) (c .before .run-length .result) (c .before .run-length .ensures .0) (start .args .s) in
     omega arith
 
 pub tag-byte-spec : {M : Type 1} → statement M

@@ -33,9 +33,10 @@ loop-again c =
 returns : tie.Need-returns Inv-loop μ-loop
 unfolding emptySection
 returns c =
+    let start = c .before .before .before .before .before in
     let turn = c .before .loop in
-    let all : turn .j ≡ sectionSize (c .before .before .before .before .before .args .t) = omega arith in
-    sym (take-all (turn .j * 512) (turn .section) (omega arith)) ∙ turn .inv .7 ∙ ap (λ (k : ℕ). collect k (emptySector (c .before .before .before .before .before .args .t))) all
+    let all : turn .j ≡ sectionSize (start .args .t) = omega arith in
+    sym (take-all (turn .j * 512) (turn .section) (omega arith)) ∙ turn .inv .7 ∙ ap (λ (k : ℕ). collect k (emptySector (start .args .t))) all
 
 pub clear-section-spec : {M : Type 1} → statement M
 clear-section-spec =

@@ -19,17 +19,20 @@ abbrev μ-loop : tie.MeasureT-loop
 
 loop-again : tie.Need-loop-again Inv-loop μ-loop
 loop-again c =
+    let turn = c .before .before .before .loop in
     let ids : ℕ → ℕ = λ i. idOf (sectorAt (c .before .before .before .before .before .before .args .section .now) i) in
     ⊎-elim
-    (λ w. (omega arith, omega arith, omega arith, omega arith, greatest-more (c .before .before .before .loop .j) (c .before .before .before .loop .greatest) (c .before .id-at .result) (c .if1 .greatest) ids (c .before .before .before .loop .inv .4) (c .before .id-at .ensures) (omega arith)))
-    (λ w. (omega arith, omega arith, omega arith, omega arith, greatest-more (c .before .before .before .loop .j) (c .before .before .before .loop .greatest) (c .before .id-at .result) (c .if1 .greatest) ids (c .before .before .before .loop .inv .4) (c .before .id-at .ensures) (omega arith)))
+    (λ w. (omega arith, omega arith, omega arith, omega arith, greatest-more (turn .j) (turn .greatest) (c .before .id-at .result) (c .if1 .greatest) ids (turn .inv .4) (c .before .id-at .ensures) (omega arith)))
+    (λ w. (omega arith, omega arith, omega arith, omega arith, greatest-more (turn .j) (turn .greatest) (c .before .id-at .result) (c .if1 .greatest) ids (turn .inv .4) (c .before .id-at .ensures) (omega arith)))
     (c .if1 .came)
 
 returns : tie.Need-returns Inv-loop μ-loop
 unfolding greatestIn
 returns c =
-    let all : c .before .loop .j ≡ sectionSize (c .before .before .before .before .args .t) = omega arith in
-    c .before .loop .inv .4 ∙ ap (λ (n : ℕ). greatest n (λ i. idOf (sectorAt (c .before .before .before .before .args .section .now) i))) all
+    let start = c .before .before .before .before in
+    let turn = c .before .loop in
+    let all : turn .j ≡ sectionSize (start .args .t) = omega arith in
+    turn .inv .4 ∙ ap (λ (n : ℕ). greatest n (λ i. idOf (sectorAt (start .args .section .now) i))) all
 
 pub greatest-in-spec : {M : Type 1} → statement M
 greatest-in-spec =

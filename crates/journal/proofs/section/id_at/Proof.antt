@@ -5,7 +5,9 @@ use Rattle.journal.proofs.section.id_at.Statement.{statement}
 use Rattle.journal.proofs.section.id_at.Tie as tie
 
 returns : tie.Need-returns
-returns c = c .number .ensures .0 ∙ id-part (c .before .before .args .section .now) (c .before .before .args .j)
+returns c =
+    let start = c .before .before in
+    c .number .ensures .0 ∙ id-part (start .args .section .now) (start .args .j)
 
 pub id-at-spec : {M : Type 1} → statement M
 id-at-spec = tie.close (tie.spec (λ c. search needs) (λ c. search needs) (λ c κs. search needs) returns)

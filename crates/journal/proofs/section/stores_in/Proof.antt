@@ -6,7 +6,7 @@ use lib.ListN.{length}
 use borrow.Author.Needs.{needs}
 use Rattle.model.specs.Layout.{entryCount}
 use Rattle.journal.proofs.Sizes.{width-high}
-use Rattle.journal.proofs.Stores.{storesBelow, count-used, count-unused}
+use Rattle.journal.proofs.Counts.{storesBelow, count-used, count-unused}
 use Rattle.journal.proofs.section.stores_in.Statement.{statement}
 use Rattle.journal.proofs.section.stores_in.Tie as tie
 
@@ -17,41 +17,49 @@ abbrev μ-loop : tie.MeasureT-loop
 μ-loop g section count stores₀ i₀ stores i = count - i
 
 entry-count-requires : tie.Need-entry-count-requires Inv-loop μ-loop
-entry-count-requires c κs = width-high (c .before .args .g) (c .before .pre .0)
+entry-count-requires c κs =
+    let start = c .before in
+    width-high (start .args .g) (start .pre .0)
 
 loop-holds : tie.Need-loop-holds Inv-loop μ-loop
 loop-holds c = (omega arith, omega arith, omega arith, omega arith, λ k. refl)
 
 entry-sector-requires : tie.Need-entry-sector-requires Inv-loop μ-loop
-entry-sector-requires c κs = (width-high (c .before .before .before .before .args .g) (c .before .before .before .before .pre .0), omega arith, c .before .before .before .before .pre .1)
+entry-sector-requires c κs =
+    let start = c .before .before .before .before in
+    (width-high (start .args .g) (start .pre .0), omega arith, start .pre .1)
 
 loop-again : tie.Need-loop-again Inv-loop μ-loop
 loop-again c =
-    let g = c .before .before .before .before .before .before .args .g in
-    let section = c .before .before .before .before .before .before .args .section .now in
-    let i = c .before .before .before .loop .i in
+    let start = c .before .before .before .before .before .before in
+    let turn = c .before .before .before .loop in
+    let g = start .args .g in
+    let section = start .args .section .now in
+    let i = turn .i in
     ⊎-elim
     (λ w. (
       omega arith,
       omega arith,
       omega arith,
       omega arith,
-      λ k. omega (arith, w .1, c .before .before .before .loop .inv .4 k, count-used g (g .width) k section i (λ q. w .0 .taken (c .before .entry-sector .ensures ∙ q))),
+      λ k. omega (arith, w .1, turn .inv .4 k, count-used g (g .width) k section i (λ q. w .0 .taken (c .before .entry-sector .ensures ∙ q))),
     ))
     (λ w. (
       omega arith,
       omega arith,
       omega arith,
       omega arith,
-      λ k. omega (arith, w .1, c .before .before .before .loop .inv .4 k, count-unused g (g .width) k section i (sym (c .before .entry-sector .ensures) ∙ w .0 .left)),
+      λ k. omega (arith, w .1, turn .inv .4 k, count-unused g (g .width) k section i (sym (c .before .entry-sector .ensures) ∙ w .0 .left)),
     ))
     (c .if1 .came)
 
 returns : tie.Need-returns Inv-loop μ-loop
 returns c =
-    let g = c .before .before .before .before .args .g in
-    let all : c .before .loop .i ≡ entryCount (g .width) = omega arith in
-    ((λ k. c .before .loop .inv .4 k ∙ ap (λ (n : ℕ). length (storesBelow g (g .width) k (c .before .before .before .before .args .section .now) n)) all), omega arith)
+    let start = c .before .before .before .before in
+    let turn = c .before .loop in
+    let g = start .args .g in
+    let all : turn .i ≡ entryCount (g .width) = omega arith in
+    ((λ k. turn .inv .4 k ∙ ap (λ (n : ℕ). length (storesBelow g (g .width) k (start .args .section .now) n)) all), omega arith)
 
 pub stores-in-spec : {M : Type 1} → statement M
 stores-in-spec =

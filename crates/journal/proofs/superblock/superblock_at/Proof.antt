@@ -6,7 +6,9 @@ use Rattle.journal.proofs.superblock.superblock_at.Statement.{statement
 use Rattle.journal.proofs.superblock.superblock_at.Tie as tie
 
 returns : tie.Need-returns
-returns c = lent (c .before .args .v .now) (c .before .args .r * 512) 4096 (omega arith)
+returns c =
+    let start = c .before in
+    lent (start .args .v .now) (start .args .r * 512) 4096 (omega arith)
 
 pub superblock-at-spec : {M : Type 1} → statement M
 superblock-at-spec =
