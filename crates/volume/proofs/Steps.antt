@@ -27,19 +27,19 @@ use Rattle.model.specs.Flush.{inPhase}
 use Rattle.model.specs.Step.{commitStore, commitStep}
 use Rattle.model.proofs.Addresses.{Ranged, ranged, tag-sector, tag-inside, data-room, tag-room}
 use Rattle.model.proofs.Homes.{tag-store}
-use Rattle.volume.specs.Results.{Leaves, entryOf3}
+use Rattle.volume.specs.Results.{Leaves, entryWith}
 
 -- ---- an entry brought home
 
 module _ (g : Layout) (ok : layoutOk g ≡ true) (v : List ℕ) (room : needed g * 512 ≤ length v) (n : ℕ) (low : n < g .provided)
     (b t : List ℕ) (whole : length b ≡ 512) (sized : length t ≡ g .width) where
-  pub data-stored : (a : ℕ) (r : List ℕ) → a ≡ dataAt g n → r ≡ patch v (a * 512) (part b 0 512) → r ≡ made v (homeStore g v (entryOf3 n b t) 0)
+  pub data-stored : (a : ℕ) (r : List ℕ) → a ≡ dataAt g n → r ≡ patch v (a * 512) (part b 0 512) → r ≡ made v (homeStore g v (entryWith n b t) 0)
   data-stored a r ea e = rw (e, part-all b 512 whole, ea)
 
-  pub tag-stored : (a : ℕ) (r : List ℕ) → a ≡ tagByte g n → r ≡ patch v a (part t 0 (g .width)) → r ≡ made v (homeStore g v (entryOf3 n b t) 1)
+  pub tag-stored : (a : ℕ) (r : List ℕ) → a ≡ tagByte g n → r ≡ patch v a (part t 0 (g .width)) → r ≡ made v (homeStore g v (entryWith n b t) 1)
   tag-stored a r ea e =
       e ∙ ap (patch v a) (part-all t (g .width) sized) ∙ ap (λ (x : ℕ). patch v x t) ea
-      ∙ sym (tag-store g (ranged g ok) (tagOf (g .width)) v room (entryOf3 n b t) low whole sized)
+      ∙ sym (tag-store g (ranged g ok) (tagOf (g .width)) v room (entryWith n b t) low whole sized)
 
   pub tag-at : (a : ℕ) → a ≡ tagByte g n → a / 512 ≡ tagSector g n
   tag-at a ea = omega (arith, tag-sector g (ranged g ok) n)

@@ -2,7 +2,7 @@
 --
 -- written w st             : write's, with the staging loan afterwards
 -- Leaves v o r v′ st′      : a step on the volume v handed back r and left the volume v′ and the staging loan st′, as its result o says
--- entryOf3 n b t           : the entry for sector n with the bytes b and the tag t
+-- entryWith n b t          : the entry for sector n with the bytes b and the tag t
 -- newestPlace t st d c n   : the place of the last of the first c staged entries for sector n; d where there is none
 use Prim.Native.Nat.{ℕ, zero, suc}
 use mathlib.Core.List.{List}
@@ -24,8 +24,8 @@ pub record Leaves (v : List ℕ) (o : StepResult) (r : Stepped) (v′ st′ : Li
   pub volume : v′ ≡ afterEffect v (o .effect)
   pub staging : st′ ≡ o .staging
 
-abbrev pub entryOf3 : ℕ → List ℕ → List ℕ → Entry
-entryOf3 n b t = record { sector = n; bytes = b; tag = t }
+abbrev pub entryWith : ℕ → List ℕ → List ℕ → Entry
+entryWith n b t = record { sector = n; bytes = b; tag = t }
 
 abbrev pub newestPlace : ℕ → List ℕ → ℕ → ℕ → ℕ → ℕ
 newestPlace t st d zero n = d

@@ -20,12 +20,12 @@ ghost use Rattle.model.specs.Section.{Entry};
 ghost use Rattle.model.specs.Store.{made, homeStore};
 ghost use Rattle.model.specs.State.{lastId};
 ghost use Rattle.model.specs.Step.{commitStep};
-ghost use Rattle.volume.specs.Results.{entryOf3, Leaves};
+ghost use Rattle.volume.specs.Results.{entryWith, Leaves};
 
 // Makes store h of those that bring an entry home: its data sector, then the tag sector with only that tag replaced. Gives the sector stored.
 fn bring_home(v: &mut [u8], g: Layout, sector: usize, bytes: &[u8], tag: &[u8], h: usize) -> usize
     requires { ⌜ (layoutOk g ≡ true) × (needed g * 512 ≤ length (now v)) × (sector < g .provided) × (length (now bytes) ≡ 512) × (length (now tag) ≡ g .width) × (h < 2) ⌝ }
-    ensures { λ r. ⌜ (r ≡ homeStore g (now (v .entry)) (entryOf3 sector (now (bytes .entry)) (now (tag .entry))) h .at) × (now (v .exit) ≡ made (now (v .entry)) (homeStore g (now (v .entry)) (entryOf3 sector (now (bytes .entry)) (now (tag .entry))) h)) ⌝ }
+    ensures { λ r. ⌜ (r ≡ homeStore g (now (v .entry)) (entryWith sector (now (bytes .entry)) (now (tag .entry))) h .at) × (now (v .exit) ≡ made (now (v .entry)) (homeStore g (now (v .entry)) (entryWith sector (now (bytes .entry)) (now (tag .entry))) h)) ⌝ }
 {
     if h == 0 {
         let at = layout::data_at(g, sector);

@@ -1,4 +1,4 @@
-use Rattle.volume.specs.Results.{entryOf3}
+use Rattle.volume.specs.Results.{entryWith}
 use Rattle.model.specs.Store.{homeStore, made}
 use mathlib.Core.Path.{sym, ap, _∙_, refl}
 use Rattle.journal.proofs.Sizes.{width-high, provided-high}
