@@ -9,12 +9,14 @@ pub mod Store
 pub mod State
 pub mod Format
 pub mod Open
+pub mod Query
 pub mod Write
 pub mod Flush
 pub mod Step
 pub mod Read
 pub mod Ledger
 pub mod World
+pub mod Advance
 pub mod Demand3
 pub mod Guarantees
 pub mod ReadBack

@@ -2,12 +2,13 @@
 -- by entry in replay order. It stores nothing on the volume.
 --
 -- misplaced g v k        : whether section k is whole and stands in the wrong place
--- openRows g r v st      : the rules up to 11, for the layout g that the superblock holds
+-- superblockRows g r v   : the rules up to the second 5, for the layout g that the superblock holds
+-- openRows g r v st      : the rules up to 11
 -- entriesVerdict ..      : the rules 6 and 7, entry by entry
 -- openOf tag r v st      : the call: its answer and the staging loan afterwards
 use Prim.Native.Nat.{ℕ, zero, suc, _+_, _-_, _*_, _%_}
 use mathlib.Core.Bool.{Bool, not, _&&_}
-use mathlib.Core.List.{List, [], _∷_}
+use mathlib.Core.List.{List, [], _∷_, _++_}
 use lib.ListN.{length}
 use lib.Dec.{leb, ltb, eqb}
 use Rattle.octets.specs.Choice.{pick, firstMet}
@@ -36,18 +37,24 @@ abbrev pub firstBelow : ℕ → (ℕ → Bool) → ℕ
 firstBelow zero f = 0
 firstBelow (suc n) f = pick (allBelow n (λ k. not (f k))) n (firstBelow n f)
 
-abbrev pub openRows : Layout → ℕ → List ℕ → List ℕ → List (Bool × Verdict)
-openRows g r v st =
+-- what is asked of the volume and its superblock, before anything else is looked at
+abbrev pub superblockRows : Layout → ℕ → List ℕ → List (Bool × Verdict)
+superblockRows g r v =
     (not (volumeLoanOk v), refused Malformed)
     ∷ (ltb mostReserved r, refused Parameter)
     ∷ (ltb (length v) ((r + superblockSize) * sectorSize), refused (Short (r + superblockSize)))
     ∷ (isZero (superblockAt r v), refused Superblock)
     ∷ (not (superblockOk r (superblockAt r v)), refused Invalid)
     ∷ (ltb (length v) (needed g * sectorSize), refused (Short (needed g)))
-    ∷ (not (stagingOk g st), refused Malformed)
+    ∷ []
+
+abbrev pub openRows : Layout → ℕ → List ℕ → List ℕ → List (Bool × Verdict)
+openRows g r v st =
+    superblockRows g r v
+    ++ ((not (stagingOk g st), refused Malformed)
     ∷ (eqb (greatestId g v) lastId, refused Exhausted)
     ∷ (not (allBelow (g .sections) (λ k. not (misplaced g v k))), refused (Misplaced (firstBelow (g .sections) (misplaced g v))))
-    ∷ []
+    ∷ [])
 
 abbrev pub entriesVerdict : Tag → Layout → List Replayed → Verdict
 entriesVerdict tag g [] = passed

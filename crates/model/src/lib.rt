@@ -137,6 +137,12 @@ pub enum StepAnswer {
     Refused(Refusal),
 }
 
+pub enum QueryAnswer {
+    // The numbers that the superblock holds, and the bytes that the staging loan must have.
+    Holds(Layout, usize),
+    Refused(Refusal),
+}
+
 pub enum ReadAnswer {
     // The sector's bytes are in the loan.
     Found,
@@ -156,5 +162,14 @@ pub struct Flushed {
 
 pub struct Stepped {
     pub answer: StepAnswer,
+    pub state: State,
+}
+
+// What advance hands back: the last step's answer (idle, and nothing said, where no step was asked), how many stores were made, whether a step
+// acknowledged the batch, and the state.
+pub struct Advanced {
+    pub answer: StepAnswer,
+    pub stores: usize,
+    pub acknowledged: bool,
     pub state: State,
 }

@@ -1,0 +1,52 @@
+-- Advance: so many steps, one after the other. Document 01, "Working a volume", Step.
+--
+-- AdvanceResult       : what they leave: the last step's answer, how many stores were made, whether a step said acknowledged; state, volume and staging
+-- noStep s v st       : what no step leaves
+-- oneMore o           : what steps that left o and one step more leave
+-- advanceOf n s v st  : the call: n steps
+use Prim.Native.Nat.{ℕ, zero, suc, _+_}
+use mathlib.Core.Bool.{Bool, true, false}
+use mathlib.Core.List.{List}
+use Rattle.octets.specs.Choice.{pick}
+use Rattle.model.specs.declared.Done.the-variants.{Idle}
+use Rattle.model.specs.declared.Says.the-variants.{Nothing}
+use Rattle.model.specs.declared.State.{State}
+use Rattle.model.specs.declared.StepAnswer.{StepAnswer}
+use Rattle.model.specs.declared.StepAnswer.the-variants.{Stepped}
+use Rattle.model.specs.Store.{Effect, none, one, afterEffect}
+use Rattle.model.specs.Step.{StepResult, stepOf}
+use Rattle.model.specs.World.{stepAcknowledges}
+
+pub record AdvanceResult : Type 0 where
+  pub answer : StepAnswer
+  pub stores : ℕ
+  pub acknowledged : Bool
+  pub state : State
+  pub volume : List ℕ
+  pub staging : List ℕ
+
+-- nothing was done, and nothing is said
+abbrev pub noStep : State → List ℕ → List ℕ → AdvanceResult
+noStep s v st = record { answer = Stepped Idle Nothing; stores = 0; acknowledged = false; state = s; volume = v; staging = st }
+
+abbrev pub storesIn : Effect → ℕ
+storesIn none = 0
+storesIn (one x) = 1
+
+abbrev pub stepMade : AdvanceResult → StepResult → AdvanceResult
+stepMade o x =
+    record {
+      answer = x .answer;
+      stores = o .stores + storesIn (x .effect);
+      acknowledged = pick (stepAcknowledges (x .answer)) true (o .acknowledged);
+      state = x .state;
+      volume = afterEffect (o .volume) (x .effect);
+      staging = x .staging;
+    }
+
+abbrev pub oneMore : AdvanceResult → AdvanceResult
+oneMore o = stepMade o (stepOf (o .state) (o .volume) (o .staging))
+
+unfoldable pub advanceOf : ℕ → State → List ℕ → List ℕ → AdvanceResult
+advanceOf zero s v st = noStep s v st
+advanceOf (suc n) s v st = oneMore (advanceOf n s v st)
