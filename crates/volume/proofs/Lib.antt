@@ -6,3 +6,4 @@ pub mod Formats
 pub mod Writes
 pub mod Steps
 pub mod Reading
+pub mod Queries
