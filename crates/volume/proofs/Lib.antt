@@ -7,3 +7,5 @@ pub mod Writes
 pub mod Steps
 pub mod Reading
 pub mod Queries
+pub mod Checks
+pub mod Opens
