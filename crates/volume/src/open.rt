@@ -116,12 +116,13 @@ fn open_journal(v: &[u8], st: &mut [u8], g: Layout) -> OpenAnswer
         return OpenAnswer::Refused(Refusal::Malformed);
     }
     let greatest = sections::greatest_id(v, g);
+    let found = sections::scan(v, g);
+    let misplaced = sections::first_misplaced(found, g);
+    let count = g.sections;
     if greatest == LAST_ID {
         return OpenAnswer::Refused(Refusal::Exhausted);
     }
-    let found = sections::scan(v, g);
-    let misplaced = sections::first_misplaced(found, g);
-    if misplaced < g.sections {
+    if misplaced < count {
         return OpenAnswer::Refused(Refusal::Misplaced(misplaced));
     }
     let order = found.order;
