@@ -1,7 +1,7 @@
 -- Step: what each store leaves, over plain lists, and one law to a return.
-use Prim.Native.Nat.{ℕ, _+_, _-_, _*_, _/_, _%_, _≤_, _<_}
+use Prim.Native.Nat.{ℕ, _+_, _*_, _/_, _≤_, _<_}
 use mathlib.Core.Bool.{Bool, true, false, _&&_}
-use mathlib.Core.List.{List, _++_}
+use mathlib.Core.List.{List}
 use mathlib.Core.Path.{_≡_, refl, sym, ap, _∙_, subst}
 use native.Mathlib.Omega.{arith}
 use lib.Dec.{eqb}
@@ -24,7 +24,7 @@ use Rattle.model.specs.declared.Says.the-variants.{Nothing, Acknowledged, Filli
 use Rattle.model.specs.declared.State.{State}
 use Rattle.model.specs.declared.StepAnswer.the-variants as answers
 use Rattle.model.specs.declared.Stepped.{Stepped}
-use Rattle.model.specs.Layout.{sectionSize, sectionAt, base, dataAt, tagByte, tagSector, needed, layoutOk}
+use Rattle.model.specs.Layout.{sectionSize, sectionAt, dataAt, tagByte, tagSector, needed, layoutOk}
 use Rattle.model.specs.Section.{Entry, entryOf, emptySection}
 use Rattle.model.specs.Journal.{sectionFor, sealed, sectionOf, replay}
 use Rattle.model.specs.Store.{made, homeCount, homeStore, Place, storesOf}
@@ -32,7 +32,7 @@ use Rattle.model.specs.Tag.{tagOf}
 use Rattle.model.specs.State.{passed, refused, stateOk, volumeOk, stagingOk}
 use Rattle.model.specs.Flush.{inPhase}
 use Rattle.model.specs.Step.{StepResult, placeAt, rangeRows, commitStore, commitStep, homeStep, writeBackStep, recoverPlace, phaseStep, stepBy, stepOf}
-use Rattle.model.proofs.Addresses.{Ranged, ranged, tag-sector, tag-inside, data-room, tag-room}
+use Rattle.model.proofs.Addresses.{ranged, tag-sector}
 use Rattle.model.proofs.Homes.{tag-store}
 use Rattle.journal.specs.declared.Location.{Location}
 use Rattle.journal.specs.declared.Scan.{Scan}
