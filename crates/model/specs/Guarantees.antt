@@ -18,6 +18,7 @@ use Rattle.model.specs.declared.Layout.{Layout}
 use Rattle.model.specs.declared.OpenAnswer.the-variants.{Opened}
 use Rattle.model.specs.declared.State.{State}
 use Rattle.model.specs.Layout.{sectionSize, sectionAt, base, dataAt, tagByte, needed}
+use Rattle.model.specs.Superblock.{superblockAt, layoutIn}
 use Rattle.model.specs.Tag.{Tag}
 use Rattle.model.specs.Format.{formatOf}
 use Rattle.model.specs.Open.{openOf}
@@ -51,6 +52,9 @@ pub record Guarantees (tag : Tag) (g : Layout) (v₀ : List ℕ) (w : World) (l 
   pub counts : (staging : List ℕ) (s : State) (n : ℕ) → w .live ≡ off
       → openOf tag (g .reserved) (volumeIn (w .medium)) staging .answer ≡ Opened s n
       → (k : ℕ) → k ≤ n → after tag (g .reserved) w (anOpen staging ∷ replicate k aStep) .settled ≡ eqb k n
+  -- the superblock holds the layout that was formatted, and what is live has it
+  pub layout : layoutIn (g .reserved) (superblockAt (g .reserved) (volumeIn (w .medium))) ≡ g
+  pub live : (s : State) (staging : List ℕ) → w .live ≡ on s staging → s .layout ≡ g
   -- "Unused tag bytes are zero at format and never changed"; "Sectors behind the last run are never touched."
   pub untouched : (b : ℕ) → Outside g b → getD (volumeIn (w .medium)) b 0 ≡ getD v₀ b 0
   pub behind : (a : ℕ) → needed g ≤ a → sectorAt (volumeIn (w .medium)) a ≡ sectorAt v₀ a
