@@ -18,7 +18,7 @@ use Rattle.model.specs.declared.State.{State}
 use Rattle.model.specs.Layout.{sectionSize, needed}
 use Rattle.model.specs.Section.{Entry, entryOf, emptySection}
 use Rattle.model.specs.Journal.{greatestId, replay}
-use Rattle.model.specs.Tag.{Tag}
+use Rattle.model.specs.Tag.{Tag, tagOf}
 use Rattle.model.specs.Store.{storesOf}
 use Rattle.model.specs.State.{stagingOk, passed}
 use Rattle.model.specs.Step.{StepResult, commitStep, homeStep, phaseStep, stepOf}
@@ -32,11 +32,11 @@ use Rattle.model.proofs.Steps.{live-runs, replay-stays, recover-next}
 use Rattle.model.proofs.Opens.{decoded, open-runs, open-refused}
 use Rattle.model.proofs.Replays.{Which, isTrue, isFalse, which}
 use Rattle.model.specs.Format.{formatOf}
-use Rattle.model.specs.Guarantees.{Outside, Guarantees, Guaranteed}
+use Rattle.model.specs.Guarantees.{Outside, Guarantees, Guaranteed, GuaranteedSha256}
 use Rattle.model.proofs.Cuts.{cuts}
 use Rattle.model.proofs.Volumes.{part-bytes}
 use Rattle.model.proofs.Formats.{Fresh, format-fresh}
-use Rattle.model.proofs.Demand3.{setting, I, starts, plays, lasts}
+use Rattle.model.proofs.Demand3.{formatted-length, setting, I, starts, plays, lasts}
 
 staging-ok : (g : Layout) (st : List ℕ) → length st ≡ sectionSize (g .width) * 512 → stagingOk g st ≡ true
 unfolding stagingOk
@@ -221,3 +221,6 @@ guaranteed tag g sz v e es =
     let X : Setting tag g (formatOf tag g v .volume) = setting tag g sz (formatOf tag g v .volume) F in
     all-hold tag g (formatOf tag g v .volume) X _ _
     (lasts tag g (formatOf tag g v .volume) X (begin (formatOf tag g v .volume)) start es (starts tag g (formatOf tag g v .volume) X F))
+
+pub guaranteed-sha256 : GuaranteedSha256
+guaranteed-sha256 g v e = guaranteed (tagOf (g .width)) g (formatted-length g v e) v e
