@@ -3,3 +3,4 @@ pub mod Numbers
 pub mod Outcome
 pub mod Sha256
 pub mod HashTree
+pub mod Volumes
