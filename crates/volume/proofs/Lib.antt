@@ -6,3 +6,6 @@ pub mod Formats
 pub mod Writes
 pub mod Steps
 pub mod Reading
+pub mod Queries
+pub mod Checks
+pub mod Opens
