@@ -1,8 +1,8 @@
 -- The volume's calls over buffers, and how a state and an answer lie in a buffer. Document 01, "Working a volume" and "Refusal numbers".
 --
--- A state is ten numbers and an answer five, of 8 bytes each, little-endian.
+-- A state is ten numbers, an answer and a layout are five, of 8 bytes each, little-endian.
 --
--- stateSize, answerSize     : the length of a state and of an answer, in bytes
+-- stateSize, answerSize, layoutSize : the length of a state, an answer and a layout, in bytes
 -- numberAt b k              : number k in the bytes b
 -- phaseNumbersOf p          : the phase p as three numbers: which it is, and the two of its place, 0 where it has none
 -- phaseOf p x y             : the phase of the numbers p, x, y
@@ -23,6 +23,10 @@
 -- writeCall s st n b a      : what gaffreel_volume_write leaves of the state's buffer s, staging st, sector n, its bytes b, and a
 -- flushCall s a             : what gaffreel_volume_flush leaves
 -- readCall s v st n b a     : what gaffreel_volume_read leaves; b is the buffer that receives the sector's bytes
+-- openCall v st r s a       : what gaffreel_volume_open leaves; r is the number of reserved sectors, and s the buffer that receives the state
+-- queryCall v r l a         : what gaffreel_volume_query leaves; l is the buffer that receives the layout
+-- stepCall s v st a         : what gaffreel_volume_step leaves
+-- advanceCall s v st n a    : what gaffreel_volume_advance leaves, for n steps
 use Prim.Native.Nat.{ℕ, _*_, _^_, _<_}
 use mathlib.Core.Bool.{Bool, not, _&&_, _||_}
 use mathlib.Core.List.{List, [], _∷_, _++_}
@@ -30,20 +34,30 @@ use lib.Dec.{eqb}
 use lib.ListN.{length, getD}
 use Rattle.octets.specs.Numbers.{value}
 use Rattle.octets.specs.Parts.{part}
-use Rattle.octets.specs.Choice.{firstMet}
+use Rattle.octets.specs.Choice.{pick, firstMet}
+use Rattle.model.specs.declared.Done.{Done}
+use Rattle.model.specs.declared.Done.the-variants.{Idle, Stored}
 use Rattle.model.specs.declared.FlushAnswer.{FlushAnswer}
 use Rattle.model.specs.declared.FlushAnswer.the-variants as flushing
 use Rattle.model.specs.declared.Flushed.{Flushed}
 use Rattle.model.specs.declared.FormatAnswer.{FormatAnswer}
 use Rattle.model.specs.declared.FormatAnswer.the-variants as formatting
 use Rattle.model.specs.declared.Layout.{Layout}
+use Rattle.model.specs.declared.OpenAnswer.{OpenAnswer}
+use Rattle.model.specs.declared.OpenAnswer.the-variants as opening
 use Rattle.model.specs.declared.Phase.{Phase}
 use Rattle.model.specs.declared.Phase.the-variants.{Filling, Committing, WritingBack, Recovering}
+use Rattle.model.specs.declared.QueryAnswer.{QueryAnswer}
+use Rattle.model.specs.declared.QueryAnswer.the-variants as querying
 use Rattle.model.specs.declared.ReadAnswer.{ReadAnswer}
 use Rattle.model.specs.declared.ReadAnswer.the-variants as reading
 use Rattle.model.specs.declared.Refusal.{Refusal}
 use Rattle.model.specs.declared.Refusal.the-variants.{Malformed}
+use Rattle.model.specs.declared.Says.{Says}
+use Rattle.model.specs.declared.Says.the-variants as saying
 use Rattle.model.specs.declared.State.{State}
+use Rattle.model.specs.declared.StepAnswer.{StepAnswer}
+use Rattle.model.specs.declared.StepAnswer.the-variants as stepping
 use Rattle.model.specs.declared.WriteAnswer.{WriteAnswer}
 use Rattle.model.specs.declared.WriteAnswer.the-variants as writing
 use Rattle.model.specs.Refusal.{numberOf, valuesOf}
@@ -52,6 +66,12 @@ use Rattle.model.specs.Format.{FormatResult, formatOf}
 use Rattle.model.specs.Write.{WriteResult, writeOf}
 use Rattle.model.specs.Flush.{flushOf}
 use Rattle.model.specs.Read.{ReadResult, readOf}
+use Rattle.model.specs.Superblock.{superblockAt, layoutIn}
+use Rattle.model.specs.Open.{OpenResult, openOf}
+use Rattle.model.specs.Query.{queryOf}
+use Rattle.model.specs.Store.{afterEffect}
+use Rattle.model.specs.Step.{StepResult, stepOf}
+use Rattle.model.specs.Advance.{AdvanceResult, advanceOf}
 use Rattle.gaffreel.specs.declared.volumes.PhaseNumbers.{PhaseNumbers}
 use Rattle.gaffreel.specs.declared.volumes.Reply.{Reply}
 use Rattle.gaffreel.specs.Numbers.{numberBytes}
@@ -169,6 +189,36 @@ abbrev pub readReply : ReadAnswer → Reply
 readReply reading.Found = carriedOut 0 0 0 0 0
 readReply (reading.Refused r) = refusal r
 
+-- the stores to come
+abbrev pub openReply : OpenAnswer → Reply
+openReply (opening.Opened s n) = carriedOut n 0 0 0 0
+openReply (opening.Refused r) = refusal r
+
+-- the bytes that staging must have
+abbrev pub queryReply : QueryAnswer → Reply
+queryReply (querying.Holds g n) = carriedOut n 0 0 0 0
+queryReply (querying.Refused r) = refusal r
+
+-- 1 where a sector was stored, else 0
+abbrev pub storedOf : Done → ℕ
+storedOf Idle = 0
+storedOf (Stored n) = 1
+
+-- that sector, else 0
+abbrev pub sectorOf : Done → ℕ
+sectorOf Idle = 0
+sectorOf (Stored n) = n
+
+abbrev pub saysOf : Says → ℕ
+saysOf saying.Nothing = 0
+saysOf saying.Acknowledged = 1
+saysOf saying.Filling = 2
+
+-- with two numbers more, n and k
+abbrev pub stepReply : StepAnswer → ℕ → ℕ → Reply
+stepReply (stepping.Stepped d x) n k = carriedOut (storedOf d) (sectorOf d) (saysOf x) n k
+stepReply (stepping.Refused r) n k = refusal r
+
 -- ---- format
 
 pub record FormatCall : Type 0 where
@@ -254,3 +304,114 @@ readCall s v st n b a =
     (not (encodesState s), record { number = numberOf Malformed; sector = b; answer = answerBytesOf (refusal Malformed) }) ∷
     [])
     (readLeaves (readOf (tagOf (decodeOf s .layout .width)) (decodeOf s) v st n b))
+
+-- ---- open
+
+pub record OpenCall : Type 0 where
+  pub number : ℕ
+  pub staging : List ℕ
+  pub state : List ℕ
+  pub answer : List ℕ
+
+-- the state's buffer s afterwards
+abbrev pub openedBytes : OpenAnswer → List ℕ → List ℕ
+openedBytes (opening.Opened d n) s = encodeOf d
+openedBytes (opening.Refused r) s = s
+
+abbrev pub openLeaves : OpenResult → List ℕ → OpenCall
+openLeaves o s =
+    record {
+      number = openReply (o .answer) .number;
+      staging = o .staging;
+      state = openedBytes (o .answer) s;
+      answer = answerBytesOf (openReply (o .answer));
+    }
+
+unfoldable pub openCall : List ℕ → List ℕ → ℕ → List ℕ → List ℕ → OpenCall
+openCall v st r s a =
+    firstMet
+    ((differs (length a) answerSize, record { number = wrongLength; staging = st; state = s; answer = a }) ∷ (
+      differs (length s) stateSize,
+      record { number = numberOf Malformed; staging = st; state = s; answer = answerBytesOf (refusal Malformed) },
+    ) ∷
+    [])
+    (openLeaves (openOf (tagOf (layoutIn r (superblockAt r v) .width)) r v st) s)
+
+-- ---- query
+
+abbrev pub layoutSize : ℕ
+layoutSize = 40
+
+pub record QueryCall : Type 0 where
+  pub number : ℕ
+  pub layout : List ℕ
+  pub answer : List ℕ
+
+-- the layout's buffer l afterwards
+abbrev pub heldBytes : QueryAnswer → List ℕ → List ℕ
+heldBytes (querying.Holds g n) l = layoutBytesOf g
+heldBytes (querying.Refused r) l = l
+
+abbrev pub queryLeaves : QueryAnswer → List ℕ → QueryCall
+queryLeaves o l = record { number = queryReply o .number; layout = heldBytes o l; answer = answerBytesOf (queryReply o) }
+
+unfoldable pub queryCall : List ℕ → ℕ → List ℕ → List ℕ → QueryCall
+queryCall v r l a =
+    firstMet
+    ((differs (length l) layoutSize, record { number = wrongLength; layout = l; answer = a }) ∷
+    (differs (length a) answerSize, record { number = wrongLength; layout = l; answer = a }) ∷
+    [])
+    (queryLeaves (queryOf r v) l)
+
+-- ---- step and advance
+
+pub record StepCall : Type 0 where
+  pub number : ℕ
+  pub state : List ℕ
+  pub volume : List ℕ
+  pub staging : List ℕ
+  pub answer : List ℕ
+
+abbrev pub stepRefused : ℕ → List ℕ → List ℕ → List ℕ → List ℕ → StepCall
+stepRefused n s v st a = record { number = n; state = s; volume = v; staging = st; answer = a }
+
+abbrev pub stepLeaves : List ℕ → StepResult → StepCall
+stepLeaves v o =
+    record {
+      number = stepReply (o .answer) 0 0 .number;
+      state = encodeOf (o .state);
+      volume = afterEffect v (o .effect);
+      staging = o .staging;
+      answer = answerBytesOf (stepReply (o .answer) 0 0);
+    }
+
+unfoldable pub stepCall : List ℕ → List ℕ → List ℕ → List ℕ → StepCall
+stepCall s v st a =
+    firstMet
+    ((differs (length a) answerSize, stepRefused wrongLength s v st a) ∷
+    (not (encodesState s), stepRefused (numberOf Malformed) s v st (answerBytesOf (refusal Malformed))) ∷
+    [])
+    (stepLeaves v (stepOf (decodeOf s) v st))
+
+-- how many stores were made, and whether a step acknowledged the batch
+abbrev pub advanceReply : AdvanceResult → Reply
+advanceReply o = stepReply (o .answer) (o .stores) (pick (o .acknowledged) 1 0)
+
+-- state, volume and staging are as the steps before a refused one left them
+abbrev pub advanceLeaves : AdvanceResult → StepCall
+advanceLeaves o =
+    record {
+      number = advanceReply o .number;
+      state = encodeOf (o .state);
+      volume = o .volume;
+      staging = o .staging;
+      answer = answerBytesOf (advanceReply o);
+    }
+
+unfoldable pub advanceCall : List ℕ → List ℕ → List ℕ → ℕ → List ℕ → StepCall
+advanceCall s v st n a =
+    firstMet
+    ((differs (length a) answerSize, stepRefused wrongLength s v st a) ∷
+    (not (encodesState s), stepRefused (numberOf Malformed) s v st (answerBytesOf (refusal Malformed))) ∷
+    [])
+    (advanceLeaves (advanceOf n (decodeOf s) v st))

@@ -7,7 +7,9 @@ use crate::WRONG_LENGTH;
 use model::FlushAnswer;
 use model::FormatAnswer;
 use model::Layout;
+use model::OpenAnswer;
 use model::Phase;
+use model::QueryAnswer;
 use model::ReadAnswer;
 use model::Refusal;
 use model::State;
@@ -19,7 +21,7 @@ ghost use lib.ListN.{length};
 ghost use Rattle.octets.specs.Parts.{patch};
 ghost use Rattle.model.specs.Refusal.{numberOf};
 ghost use Rattle.gaffreel.specs.Numbers.{numberBytes};
-ghost use Rattle.gaffreel.specs.Volumes.{stateSize, phaseNumbersOf, phaseOf, isPhase, layoutOf, encodeOf, decodeOf, encodesState, answerSize, answerBytesOf, carriedOut, refusal, formatReply, writeReply, flushReply, readReply, formatCall, writeCall, flushCall, readCall};
+ghost use Rattle.gaffreel.specs.Volumes.{stateSize, phaseNumbersOf, phaseOf, isPhase, layoutBytesOf, layoutOf, encodeOf, decodeOf, encodesState, answerSize, answerBytesOf, carriedOut, refusal, formatReply, writeReply, flushReply, readReply, openReply, queryReply, formatCall, writeCall, flushCall, readCall, openedBytes, openCall, layoutSize, heldBytes, queryCall};
 
 // Lengths and indexes in bytes.
 const NUMBER_SIZE: usize = 8;
@@ -27,6 +29,8 @@ const NUMBER_SIZE: usize = 8;
 const STATE_SIZE: usize = 80;
 
 const ANSWER_SIZE: usize = 40;
+
+const LAYOUT_SIZE: usize = 40;
 
 const PHASE_AT: usize = 40;
 
@@ -131,12 +135,11 @@ fn is_phase(phase: u64, first: u64, second: u64) -> bool
             | ((phase == WRITING_BACK) | ((phase == RECOVERING) & (second == 0))))
 }
 
-// A state written over a buffer of its length.
-fn encode(s: State, buffer: &mut [u8])
-    requires { ⌜ length (now buffer) ≡ stateSize ⌝ }
-    ensures { λ _. ⌜ now (buffer .exit) ≡ encodeOf s ⌝ }
+// A layout written from index 0.
+fn put_layout(g: Layout, buffer: &mut [u8])
+    requires { ⌜ 40 ≤ length (now buffer) ⌝ }
+    ensures { λ _. ⌜ now (buffer .exit) ≡ patch (now (buffer .entry)) 0 (layoutBytesOf g) ⌝ }
 {
-    let g = s.layout;
     put_five(
         buffer,
         0,
@@ -146,6 +149,15 @@ fn encode(s: State, buffer: &mut [u8])
         g.sections as u64,
         g.provided as u64,
     );
+}
+
+// A state written over a buffer of its length.
+fn encode(s: State, buffer: &mut [u8])
+    requires { ⌜ length (now buffer) ≡ stateSize ⌝ }
+    ensures { λ _. ⌜ now (buffer .exit) ≡ encodeOf s ⌝ }
+{
+    let g = s.layout;
+    put_layout(g, buffer);
     let p = s.phase;
     let place = phase_numbers(p);
     put_five(
@@ -298,6 +310,26 @@ fn read_reply(a: ReadAnswer) -> Reply
     }
 }
 
+// The reply to what open answers.
+fn open_reply(a: OpenAnswer) -> Reply
+    ensures { λ r. ⌜ r ≡ openReply a ⌝ }
+{
+    match a {
+        OpenAnswer::Opened(_, stores) => carried_out(stores as u64, 0, 0, 0, 0),
+        OpenAnswer::Refused(r) => refused(r),
+    }
+}
+
+// The reply to what query answers.
+fn query_reply(a: QueryAnswer) -> Reply
+    ensures { λ r. ⌜ r ≡ queryReply a ⌝ }
+{
+    match a {
+        QueryAnswer::Holds(_, staging) => carried_out(staging as u64, 0, 0, 0, 0),
+        QueryAnswer::Refused(r) => refused(r),
+    }
+}
+
 // A reply's numbers written over an answer's buffer; gives the number that the call answers.
 fn put_reply(r: Reply, answer: &mut [u8]) -> u32
     requires { ⌜ length (now answer) ≡ answerSize ⌝ }
@@ -313,6 +345,28 @@ fn put_malformed(answer: &mut [u8]) -> u32
     ensures { λ n. ⌜ (n ≡ numberOf Refusal.Malformed) × (now (answer .exit) ≡ answerBytesOf (refusal Refusal.Malformed)) ⌝ }
 {
     put_reply(refused(Refusal::Malformed), answer)
+}
+
+// The state that open gives written over a buffer; a refusal leaves the buffer as it was.
+fn put_opened(a: OpenAnswer, buffer: &mut [u8])
+    requires { ⌜ length (now buffer) ≡ stateSize ⌝ }
+    ensures { λ _. ⌜ now (buffer .exit) ≡ openedBytes a (now (buffer .entry)) ⌝ }
+{
+    match a {
+        OpenAnswer::Opened(s, _) => encode(s, buffer),
+        OpenAnswer::Refused(_) => {}
+    }
+}
+
+// The layout that query gives written over a buffer; a refusal leaves the buffer as it was.
+fn put_held(a: QueryAnswer, buffer: &mut [u8])
+    requires { ⌜ length (now buffer) ≡ layoutSize ⌝ }
+    ensures { λ _. ⌜ now (buffer .exit) ≡ heldBytes a (now (buffer .entry)) ⌝ }
+{
+    match a {
+        QueryAnswer::Holds(g, _) => put_layout(g, buffer),
+        QueryAnswer::Refused(_) => {}
+    }
 }
 
 // ---- the calls
@@ -342,6 +396,50 @@ pub extern "C" fn gaffreel_volume_format(
     };
     let said = volume::format::format(v, g);
     put_reply(format_reply(said), answer)
+}
+
+// The numbers that a volume's superblock holds, and the bytes that staging must have. Refused where the layout's or the answer's buffer has a
+// wrong length, or as querying is.
+#[no_mangle]
+pub extern "C" fn gaffreel_volume_query(
+    v: &[u8],
+    reserved: usize,
+    layout: &mut [u8],
+    answer: &mut [u8],
+) -> u32
+    ensures { λ r. ⌜ record { number = r; layout = now (layout .exit); answer = now (answer .exit) } ≡ queryCall (now (v .entry)) reserved (now (layout .entry)) (now (answer .entry)) ⌝ }
+{
+    if layout.len() != LAYOUT_SIZE {
+        return WRONG_LENGTH;
+    }
+    if answer.len() != ANSWER_SIZE {
+        return WRONG_LENGTH;
+    }
+    let said = volume::query::query(v, reserved);
+    put_held(said, layout);
+    put_reply(query_reply(said), answer)
+}
+
+// Opens a volume: its state, and an empty batch in staging. Refused where the answer's or the state's buffer has a wrong length, or as opening is.
+#[no_mangle]
+pub extern "C" fn gaffreel_volume_open(
+    v: &[u8],
+    staging: &mut [u8],
+    reserved: usize,
+    state: &mut [u8],
+    answer: &mut [u8],
+) -> u32
+    ensures { λ r. ⌜ record { number = r; staging = now (staging .exit); state = now (state .exit); answer = now (answer .exit) } ≡ openCall (now (v .entry)) (now (staging .entry)) reserved (now (state .entry)) (now (answer .entry)) ⌝ }
+{
+    if answer.len() != ANSWER_SIZE {
+        return WRONG_LENGTH;
+    }
+    if state.len() != STATE_SIZE {
+        return put_malformed(answer);
+    }
+    let said = volume::open::open(v, staging, reserved);
+    put_opened(said, state);
+    put_reply(open_reply(said), answer)
 }
 
 // Adds a sector's bytes to the batch in staging. Refused where the answer's buffer has a wrong length, where the state's buffer holds no

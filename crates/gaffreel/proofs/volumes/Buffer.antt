@@ -11,16 +11,20 @@ use Rattle.octets.specs.Numbers.{le}
 use Rattle.octets.specs.Parts.{patch}
 use Rattle.octets.proofs.Numbers.{length-le}
 use Rattle.octets.proofs.Parts.{patch-join, patch-all}
+use Rattle.model.specs.declared.Done.{Done}
 use Rattle.model.specs.declared.Layout.{Layout}
 use Rattle.model.specs.declared.Phase.{Phase}
 use Rattle.model.specs.declared.Phase.the-variants.{Filling, Committing, WritingBack, Recovering}
 use Rattle.model.specs.declared.Refusal.{Refusal}
+use Rattle.model.specs.declared.Says.{Says}
 use Rattle.model.specs.declared.State.{State}
+use Rattle.model.specs.declared.StepAnswer.{StepAnswer}
+use Rattle.model.specs.declared.StepAnswer.the-variants.{Stepped, Refused}
 use Rattle.model.specs.Refusal.{numberOf, valuesOf}
 use Rattle.gaffreel.specs.declared.volumes.PhaseNumbers.{PhaseNumbers}
 use Rattle.gaffreel.specs.declared.volumes.Reply.{Reply}
 use Rattle.gaffreel.specs.Numbers.{numberBytes}
-use Rattle.gaffreel.specs.Volumes.{stateSize, numberAt, phaseNumbersOf, phaseOf, isPhase, layoutBytesOf, layoutOf, encodeOf, decodeOf, encodesState, answerSize, answerBytesOf, refusal}
+use Rattle.gaffreel.specs.Volumes.{stateSize, numberAt, phaseNumbersOf, phaseOf, isPhase, layoutBytesOf, layoutOf, encodeOf, decodeOf, encodesState, answerSize, answerBytesOf, carriedOut, refusal, storedOf, sectorOf, saysOf, stepReply, layoutSize}
 use Rattle.gaffreel.proofs.Numbers.{length-number-bytes, number-bytes-last}
 
 -- ---- numbers side by side
@@ -78,9 +82,15 @@ module _ (p x y : ℕ) where
 
 -- ---- a state put together, and taken apart
 
+pub layout-written : (g : Layout) (b c : List ℕ) → length b ≡ layoutSize → c ≡ patch b 0 (layoutBytesOf g) → c ≡ layoutBytesOf g
+unfolding layoutBytesOf
+layout-written g b c size e =
+    let five : List ℕ = g .reserved ∷ g .shift ∷ g .width ∷ g .sections ∷ g .provided ∷ [] in
+    e ∙ patch-all b (numberBytes 8 five) (length-number-bytes 8 five ∙ sym size)
+
 -- layout, phase, count and id, written one behind the other
 pub written : (s : State) (b c d : List ℕ) (q : PhaseNumbers) → length b ≡ stateSize → q ≡ phaseNumbersOf (s .phase)
-    → c ≡ patch b 0 (numberBytes 8 (s .layout .reserved ∷ s .layout .shift ∷ s .layout .width ∷ s .layout .sections ∷ s .layout .provided ∷ []))
+    → c ≡ patch b 0 (layoutBytesOf (s .layout))
     → d ≡ patch c 40 (numberBytes 8 (q .phase ∷ q .first ∷ q .second ∷ s .count ∷ s .id ∷ [])) → d ≡ encodeOf s
 unfolding encodeOf layoutBytesOf
 written s b c d q size eq ec ed =
@@ -128,3 +138,11 @@ pub refused-as : (r q : Refusal) (n : ℕ) (x : Reply) → n ≡ numberOf r → 
     → x ≡ record { number = n; first = length (valuesOf q); second = getD (valuesOf q) 0 0; third = getD (valuesOf q) 1 0; fourth = 0; fifth = 0 }
     → x ≡ refusal r
 refused-as r q n x en eq ex = rw (ex, en, eq)
+
+module _ (a : StepAnswer) (n k : ℕ) (x : Reply) where
+  pub stepped-reply : (d : Done) (w : Says) (i j m : ℕ) → a ≡ Stepped d w → i ≡ storedOf d → j ≡ sectorOf d → m ≡ saysOf w → x ≡ carriedOut i j m n k
+      → x ≡ stepReply a n k
+  stepped-reply d w i j m ea ei ej em ex = rw (ex, ea, ei, ej, em)
+
+  pub refused-reply : (r : Refusal) → a ≡ Refused r → x ≡ refusal r → x ≡ stepReply a n k
+  refused-reply r ea ex = rw (ex, ea)

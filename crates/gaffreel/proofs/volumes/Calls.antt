@@ -9,9 +9,12 @@ use borrow.Author.Tests.{eq-eqb, ne-eqb}
 use Rattle.model.specs.declared.FormatAnswer.{FormatAnswer}
 use Rattle.model.specs.declared.Flushed.{Flushed}
 use Rattle.model.specs.declared.Layout.{Layout}
+use Rattle.model.specs.declared.OpenAnswer.{OpenAnswer}
+use Rattle.model.specs.declared.QueryAnswer.{QueryAnswer}
 use Rattle.model.specs.declared.ReadAnswer.{ReadAnswer}
 use Rattle.model.specs.declared.Refusal.the-variants.{Malformed}
 use Rattle.model.specs.declared.State.{State}
+use Rattle.model.specs.declared.Stepped.{Stepped}
 use Rattle.model.specs.declared.Written.{Written}
 use Rattle.model.specs.Refusal.{numberOf}
 use Rattle.model.specs.Tag.{tagOf}
@@ -19,10 +22,14 @@ use Rattle.model.specs.Format.{formatOf}
 use Rattle.model.specs.Write.{writeOf}
 use Rattle.model.specs.Flush.{flushOf}
 use Rattle.model.specs.Read.{readOf}
-use Rattle.volume.specs.Results.{written}
+use Rattle.model.specs.Superblock.{superblockAt, layoutIn}
+use Rattle.model.specs.Open.{openOf}
+use Rattle.model.specs.Query.{queryOf}
+use Rattle.model.specs.Step.{StepResult, stepOf}
+use Rattle.volume.specs.Results.{written, Leaves}
 use Rattle.gaffreel.specs.declared.volumes.Reply.{Reply}
 use Rattle.gaffreel.specs.Outcome.{wrongLength}
-use Rattle.gaffreel.specs.Volumes.{decodeOf, encodeOf, encodesState, answerSize, answerBytesOf, refusal, formatReply, writeReply, flushReply, readReply, formatCall, writeCall, flushCall, readCall}
+use Rattle.gaffreel.specs.Volumes.{decodeOf, encodeOf, encodesState, answerSize, answerBytesOf, refusal, formatReply, writeReply, flushReply, readReply, openReply, queryReply, formatCall, writeCall, flushCall, readCall, stateSize, openedBytes, openCall, layoutSize, heldBytes, queryCall, stepReply, stepCall}
 
 -- the number answered and the answer's buffer hold the reply r
 pub record Replied (r : Reply) (n : ℕ) (a : List ℕ) : Type 0 where
@@ -106,3 +113,64 @@ module _ (s v st : List ℕ) (i : ℕ) (b a : List ℕ) where
     read-made h d ed o b' e p =
         let made : record { answer = o; sector = b' } ≡ readOf (tagOf (decodeOf s .layout .width)) (decodeOf s) v st i b = rw ed at e in
         rw (eq-eqb (length a) answerSize fits, h, ← made, p .number, p .answer)
+
+-- ---- gaffreel_volume_open
+
+module _ (v st : List ℕ) (r : ℕ) (s a : List ℕ) where
+  pub open-wrong : length a ≢ answerSize → record { number = wrongLength; staging = st; state = s; answer = a } ≡ openCall v st r s a
+  unfolding openCall
+  open-wrong h = rw (ne-eqb (length a) answerSize h)
+
+  module _ (fits : length a ≡ answerSize) (a' : List ℕ) (n : ℕ) where
+    pub open-malformed : length s ≢ stateSize → (n ≡ numberOf Malformed) × (a' ≡ answerBytesOf (refusal Malformed))
+        → record { number = n; staging = st; state = s; answer = a' } ≡ openCall v st r s a
+    unfolding openCall
+    open-malformed h p = rw (eq-eqb (length a) answerSize fits, ne-eqb (length s) stateSize h, p .0, p .1)
+
+    pub open-made : length s ≡ stateSize → (o : OpenAnswer) (st' s' : List ℕ)
+        → record { answer = o; staging = st' } ≡ openOf (tagOf (layoutIn r (superblockAt r v) .width)) r v st → s' ≡ openedBytes o s
+        → Replied (openReply o) n a' → record { number = n; staging = st'; state = s'; answer = a' } ≡ openCall v st r s a
+    unfolding openCall
+    open-made h o st' s' e es p = rw (eq-eqb (length a) answerSize fits, eq-eqb (length s) stateSize h, ← e, es, p .number, p .answer)
+
+-- ---- gaffreel_volume_query
+
+module _ (v : List ℕ) (r : ℕ) (l a : List ℕ) where
+  pub query-wrong-layout : length l ≢ layoutSize → record { number = wrongLength; layout = l; answer = a } ≡ queryCall v r l a
+  unfolding queryCall
+  query-wrong-layout h = rw (ne-eqb (length l) layoutSize h)
+
+  module _ (layout-fits : length l ≡ layoutSize) where
+    pub query-wrong-answer : length a ≢ answerSize → record { number = wrongLength; layout = l; answer = a } ≡ queryCall v r l a
+    unfolding queryCall
+    query-wrong-answer h = rw (eq-eqb (length l) layoutSize layout-fits, ne-eqb (length a) answerSize h)
+
+    pub query-made : length a ≡ answerSize → (o : QueryAnswer) (l' a' : List ℕ) (n : ℕ) → o ≡ queryOf r v → l' ≡ heldBytes o l
+        → Replied (queryReply o) n a' → record { number = n; layout = l'; answer = a' } ≡ queryCall v r l a
+    unfolding queryCall
+    query-made fits o l' a' n e el p =
+        rw (eq-eqb (length l) layoutSize layout-fits, eq-eqb (length a) answerSize fits, ← e, el, p .number, p .answer)
+
+-- ---- gaffreel_volume_step
+
+module _ (s v st a : List ℕ) where
+  pub step-wrong : length a ≢ answerSize → record { number = wrongLength; state = s; volume = v; staging = st; answer = a } ≡ stepCall s v st a
+  unfolding stepCall
+  step-wrong h = rw (ne-eqb (length a) answerSize h)
+
+  module _ (fits : length a ≡ answerSize) (a' : List ℕ) (n : ℕ) where
+    pub step-malformed : encodesState s ≡ false → (n ≡ numberOf Malformed) × (a' ≡ answerBytesOf (refusal Malformed))
+        → record { number = n; state = s; volume = v; staging = st; answer = a' } ≡ stepCall s v st a
+    unfolding stepCall
+    step-malformed h p = rw (eq-eqb (length a) answerSize fits, h, p .0, p .1)
+
+    pub step-made : encodesState s ≡ true → (d : State) → d ≡ decodeOf s → (o : Stepped) (s' v' st' : List ℕ) → Leaves v (stepOf d v st) o v' st'
+        → s' ≡ encodeOf (o .state) → Replied (stepReply (o .answer) 0 0) n a'
+        → record { number = n; state = s'; volume = v'; staging = st'; answer = a' } ≡ stepCall s v st a
+    unfolding stepCall
+    step-made h d ed o s' v' st' e es p =
+        let made : Leaves v (stepOf (decodeOf s) v st) o v' st' = rw ed at e in
+        let x : StepResult = stepOf (decodeOf s) v st in
+        let answer : o .answer ≡ x .answer = ap (λ (z : Stepped). z .answer) (made .returned) in
+        let state : s' ≡ encodeOf (x .state) = es ∙ ap (λ (z : Stepped). encodeOf (z .state)) (made .returned) in
+        rw (eq-eqb (length a) answerSize fits, h, ← answer, state, made .volume, made .staging, p .number, p .answer)

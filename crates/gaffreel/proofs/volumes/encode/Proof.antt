@@ -4,7 +4,7 @@ use Rattle.gaffreel.proofs.volumes.encode.Statement.{statement}
 use Rattle.gaffreel.proofs.volumes.encode.Tie as tie
 
 returns : tie.Need-returns
-returns c = written (c .before .before .before .before .before .before .before .before .before .before .before .args .s) (c .before .before .before .before .before .before .before .before .before .before .before .args .buffer .now) _ _ _ (c .before .before .before .before .before .before .before .before .before .before .before .pre) (c .before .before .before .before .phase-numbers .ensures) (c .before .before .before .before .before .before .before .put-five .ensures) (c .before .before .put-five2 .ensures)
+returns c = written (c .before .before .before .before .before .before .before .before .before .before .before .args .s) (c .before .before .before .before .before .before .before .before .before .before .before .args .buffer .now) _ _ _ (c .before .before .before .before .before .before .before .before .before .before .before .pre) (c .before .before .before .before .phase-numbers .ensures) (c .before .before .before .before .before .before .before .put-layout .ensures) (c .before .before .put-five .ensures)
 
 pub encode-spec : {M : Type 1} → statement M
 encode-spec =
