@@ -1,4 +1,4 @@
-// The volume's calls: format, query, open, write, flush and read, and the stores that step will make of a commit. Document 01, "Working a volume".
+// The volume's calls: format, query, open, write, flush, step and read. Document 01, "Working a volume".
 //
 // Each call takes any volume, staging, sector, parameter or state, and gives exactly what the definition of its name in the model's specs gives, with
 // document 01's tag: answer, state and every lent byte afterwards. No call has a `requires`.
@@ -8,6 +8,6 @@ pub mod open;
 pub mod query;
 pub mod read;
 mod state;
-mod step;
+pub mod step;
 mod tag;
 pub mod write;
