@@ -4,6 +4,7 @@
 // its place, the count, the id. What a call says goes to an answer's buffer: five such numbers.
 use crate::DONE;
 use crate::WRONG_LENGTH;
+use model::Done;
 use model::FlushAnswer;
 use model::FormatAnswer;
 use model::Layout;
@@ -12,7 +13,9 @@ use model::Phase;
 use model::QueryAnswer;
 use model::ReadAnswer;
 use model::Refusal;
+use model::Says;
 use model::State;
+use model::StepAnswer;
 use model::WriteAnswer;
 ghost use mathlib.Core.Path.{_≡_};
 ghost use mathlib.Core.List.{[], _∷_};
@@ -21,7 +24,7 @@ ghost use lib.ListN.{length};
 ghost use Rattle.octets.specs.Parts.{patch};
 ghost use Rattle.model.specs.Refusal.{numberOf};
 ghost use Rattle.gaffreel.specs.Numbers.{numberBytes};
-ghost use Rattle.gaffreel.specs.Volumes.{stateSize, phaseNumbersOf, phaseOf, isPhase, layoutBytesOf, layoutOf, encodeOf, decodeOf, encodesState, answerSize, answerBytesOf, carriedOut, refusal, formatReply, writeReply, flushReply, readReply, openReply, queryReply, formatCall, writeCall, flushCall, readCall, openedBytes, openCall, layoutSize, heldBytes, queryCall};
+ghost use Rattle.gaffreel.specs.Volumes.{stateSize, phaseNumbersOf, phaseOf, isPhase, layoutBytesOf, layoutOf, encodeOf, decodeOf, encodesState, answerSize, answerBytesOf, carriedOut, refusal, formatReply, writeReply, flushReply, readReply, openReply, queryReply, storedOf, sectorOf, saysOf, stepReply, formatCall, writeCall, flushCall, readCall, openedBytes, openCall, layoutSize, heldBytes, queryCall, stepCall};
 
 // Lengths and indexes in bytes.
 const NUMBER_SIZE: usize = 8;
@@ -330,6 +333,53 @@ fn query_reply(a: QueryAnswer) -> Reply
     }
 }
 
+// Whether a step stored a sector, as a number.
+fn stored(d: Done) -> u64
+    ensures { λ r. ⌜ r ≡ storedOf d ⌝ }
+{
+    match d {
+        Done::Idle => 0,
+        Done::Stored(_) => 1,
+    }
+}
+
+// The sector that a step stored; 0 where it stored none.
+fn sector_stored(d: Done) -> u64
+    ensures { λ r. ⌜ r ≡ sectorOf d ⌝ }
+{
+    match d {
+        Done::Idle => 0,
+        Done::Stored(sector) => sector as u64,
+    }
+}
+
+// What a step says, as a number.
+fn says(x: Says) -> u64
+    ensures { λ r. ⌜ r ≡ saysOf x ⌝ }
+{
+    match x {
+        Says::Nothing => 0,
+        Says::Acknowledged => 1,
+        Says::Filling => 2,
+    }
+}
+
+// The reply to what a step answers, with two numbers more.
+fn step_reply(a: StepAnswer, fourth: u64, fifth: u64) -> Reply
+    ensures { λ r. ⌜ r ≡ stepReply a fourth fifth ⌝ }
+{
+    match a {
+        StepAnswer::Stepped(d, x) => carried_out(
+            stored(d),
+            sector_stored(d),
+            says(x),
+            fourth,
+            fifth,
+        ),
+        StepAnswer::Refused(r) => refused(r),
+    }
+}
+
 // A reply's numbers written over an answer's buffer; gives the number that the call answers.
 fn put_reply(r: Reply, answer: &mut [u8]) -> u32
     requires { ⌜ length (now answer) ≡ answerSize ⌝ }
@@ -483,6 +533,29 @@ pub extern "C" fn gaffreel_volume_flush(state: &mut [u8], answer: &mut [u8]) -> 
     encode(next, state);
     let said = flushed.answer;
     put_reply(flush_reply(said), answer)
+}
+
+// Makes the next store, or none when filling. Refused likewise.
+#[no_mangle]
+pub extern "C" fn gaffreel_volume_step(
+    state: &mut [u8],
+    v: &mut [u8],
+    staging: &mut [u8],
+    answer: &mut [u8],
+) -> u32
+    ensures { λ r. ⌜ record { number = r; state = now (state .exit); volume = now (v .exit); staging = now (staging .exit); answer = now (answer .exit) } ≡ stepCall (now (state .entry)) (now (v .entry)) (now (staging .entry)) (now (answer .entry)) ⌝ }
+{
+    if answer.len() != ANSWER_SIZE {
+        return WRONG_LENGTH;
+    }
+    if !encodes_state(state) {
+        return put_malformed(answer);
+    }
+    let stepped = volume::step::step(decode(state), v, staging);
+    let next = stepped.state;
+    encode(next, state);
+    let said = stepped.answer;
+    put_reply(step_reply(said, 0, 0), answer)
 }
 
 // Reads a sector's bytes into a buffer. Refused likewise.
