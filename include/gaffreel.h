@@ -2,7 +2,8 @@
  * Gaffreel: integrity of stored data, for a controller card. This is the C interface of libgaffreel.a.
  *
  * A function that can refuse answers a number: GAFFREEL_DONE where the call was carried out, else that of the refusal (enum
- * gaffreel_answer). After a refusal every buffer is as it was, but for one that receives what the refusal also returns.
+ * gaffreel_answer). After a refusal every buffer is as it was, but for one that receives what the refusal also returns;
+ * gaffreel_volume_advance, which is many steps, keeps those made before the refused one.
  * Each function ends for any input, and is proved to answer, and to leave in its buffers, exactly what its definition says;
  * the definitions are in crates/gaffreel/specs.
  *
@@ -13,9 +14,9 @@
  *     as for any buffer of length 0: an empty message, piece or salt is taken, any other is refused.
  *   - No alignment is asked.
  *
- * The archive is for x86-64 with the System V calling convention, and uses SSE2 registers. It needs two symbols from
- * outside, memcpy and memset; it has no writable data, and takes no memory but the stack. So it links into a firmware
- * without a C library, and calls on different buffers may run at the same time.
+ * The archive is for x86-64 with the System V calling convention, and uses SSE2 registers. It needs three symbols from
+ * outside, memcpy, memmove and memset; it has no writable data, and takes no memory but the stack. So it links into a
+ * firmware without a C library, and calls on different buffers may run at the same time.
  *
  * SHA-256 of a message that comes in two pieces:
  *
@@ -28,6 +29,29 @@
  *         || gaffreel_sha256_finish(state, sizeof state, digest, sizeof digest) != GAFFREEL_DONE) {
  *         return refused();
  *     }
+ *
+ * A volume made, opened and written to. Power may fail between any two steps: the next open finds either the whole batch
+ * or nothing of it.
+ *
+ *     uint8_t state[GAFFREEL_VOLUME_STATE_SIZE];
+ *     uint8_t answer[GAFFREEL_VOLUME_ANSWER_SIZE];
+ *     uint8_t staging[45056];
+ *
+ *     if (gaffreel_volume_format(volume, volume_length, 0, 4, 32, 1, 16, answer, sizeof answer) != GAFFREEL_DONE
+ *         || gaffreel_volume_open(volume, volume_length, staging, sizeof staging, 0, state, sizeof state, answer,
+ *                                 sizeof answer) != GAFFREEL_DONE
+ *         || gaffreel_volume_write(state, sizeof state, staging, sizeof staging, 5, bytes, GAFFREEL_VOLUME_SECTOR_SIZE,
+ *                                  answer, sizeof answer) != GAFFREEL_DONE
+ *         || gaffreel_volume_flush(state, sizeof state, answer, sizeof answer) != GAFFREEL_DONE) {
+ *         return refused();
+ *     }
+ *     do {
+ *         if (gaffreel_volume_step(state, sizeof state, volume, volume_length, staging, sizeof staging, answer,
+ *                                  sizeof answer) != GAFFREEL_DONE) {
+ *             return refused();
+ *         }
+ *         store_sector_of(volume, answer);
+ *     } while (answer[16] != GAFFREEL_VOLUME_SAYS_FILLING);
  *
  * The hash tree over an image of `count` blocks, and a block of it verified:
  *
@@ -59,10 +83,31 @@ extern "C" {
 enum gaffreel_answer {
     /* The call was carried out. */
     GAFFREEL_DONE = 0,
-    /* Refused: a buffer has a wrong length, or the digest's limit is passed. */
+    /* Refused: a buffer has a wrong length, a state is not sound, or the digest's limit is passed. */
     GAFFREEL_LENGTH_OR_LIMIT = 1,
     /* Refused: a number, or the salt's length, is out of range. */
     GAFFREEL_OUT_OF_RANGE = 2,
+    /* Refused: the superblock is not zero where a volume is to be formatted, or is zero where one is to be opened. */
+    GAFFREEL_SUPERBLOCK = 3,
+    /* Refused: the superblock is not valid: a fixed byte is another, or a number is out of range. */
+    GAFFREEL_INVALID = 4,
+    /* Refused: the volume is shorter than its layout. The sectors needed are also returned. */
+    GAFFREEL_SHORT = 5,
+    /*
+     * Refused: a logical sector is not one that the volume provides. Also returned: nothing for an argument; the entry
+     * where it is a staged one's; section and entry where it is in the journal.
+     */
+    GAFFREEL_SECTOR_RANGE = 6,
+    /* Refused: a tag does not fit. Also returned: the sector, or section and entry where it is in the journal. */
+    GAFFREEL_TAG_MISMATCH = 7,
+    /* Refused: the batch is full. */
+    GAFFREEL_FULL = 8,
+    /* Refused: not now: write and flush are for a volume that is filling, and read for one that is not recovering. */
+    GAFFREEL_NOT_NOW = 9,
+    /* Refused: the commit ids are used up. */
+    GAFFREEL_EXHAUSTED = 10,
+    /* Refused: a whole section of the journal stands in the wrong place. The section is also returned. */
+    GAFFREEL_MISPLACED = 11,
     /* Refused: the tree does not verify. The highest failing level is also returned. */
     GAFFREEL_MISMATCH = 12
 };
@@ -112,6 +157,164 @@ uint32_t gaffreel_sha256_update(uint8_t *state, size_t state_length, const uint8
  * GAFFREEL_SHA256_DIGEST_SIZE, or the state's count is more than GAFFREEL_SHA256_LIMIT.
  */
 uint32_t gaffreel_sha256_finish(const uint8_t *state, size_t state_length, uint8_t *digest, size_t digest_length);
+
+/*
+ * ---- The volume (after dm-integrity): sectors with a tag each, and a journal
+ *
+ * A write adds a sector to the batch in staging; a flush begins to commit the batch, and each step then makes one sector
+ * store: first to the journal, then, from the acknowledgement on, to the sectors themselves. After a power cut an open
+ * finds what is to be replayed, and steps replay it.
+ *
+ * Between two calls the caller keeps a state, in a buffer of its own, and the staging buffer. All numbers in the buffers
+ * below are little-endian and have 8 bytes.
+ */
+
+/* The length of a sector, in bytes. */
+#define GAFFREEL_VOLUME_SECTOR_SIZE 512
+
+/*
+ * The length of a layout, in bytes: the reserved sectors, at 0 (at most 64); the base-two logarithm of the sectors of a run,
+ * at 8 (3 to 15); the bytes of a tag, at 16 (8, 16 or 32); the sections of the journal, at 24 (1 to 64); the sectors
+ * provided, at 32 (1 to 65,536).
+ */
+#define GAFFREEL_VOLUME_LAYOUT_SIZE 40
+
+/*
+ * The length of a state, in bytes: a layout, at 0; the phase, at 40; the two numbers of its place, at 48 and 56; the entries
+ * of the batch, at 64; the next commit id, at 72. A state may be copied and stored. Bytes hold no state where the phase is
+ * none of enum gaffreel_volume_phase, or where a number of the place that the phase lacks is not 0.
+ */
+#define GAFFREEL_VOLUME_STATE_SIZE 80
+
+/*
+ * The length of an answer, in bytes: five numbers, at 0, 8, 16, 24 and 32. After a refusal: how many values are also
+ * returned, the first, the second, 0, 0. After a call that was carried out, what the call says below; numbers that it does
+ * not name are 0. An answer's buffer is written whenever it has this length.
+ */
+#define GAFFREEL_VOLUME_ANSWER_SIZE 40
+
+/* The phases, and the numbers of their places. */
+enum gaffreel_volume_phase {
+    /* Writes are taken. No place. */
+    GAFFREEL_VOLUME_FILLING = 0,
+    /* The sector of the section that is stored next. */
+    GAFFREEL_VOLUME_COMMITTING = 1,
+    /* The entry, and its store that is made next: 0 for its data, 1 for its tag. */
+    GAFFREEL_VOLUME_WRITING_BACK = 2,
+    /* The store of the replay that is made next. */
+    GAFFREEL_VOLUME_RECOVERING = 3
+};
+
+/* What a step says besides. */
+enum gaffreel_volume_says {
+    GAFFREEL_VOLUME_SAYS_NOTHING = 0,
+    /* The batch is acknowledged: it is on the volume, whatever happens next. */
+    GAFFREEL_VOLUME_SAYS_ACKNOWLEDGED = 1,
+    /* The volume is filling. */
+    GAFFREEL_VOLUME_SAYS_FILLING = 2
+};
+
+/*
+ * Makes a volume of zeros with every tag in place. It is not safe against a power cut.
+ *
+ * Refused, in this order, with
+ *   - GAFFREEL_LENGTH_OR_LIMIT where answer_length is not GAFFREEL_VOLUME_ANSWER_SIZE, or the volume is not whole sectors or
+ *     has more than 65,536;
+ *   - GAFFREEL_OUT_OF_RANGE where a number of the layout is;
+ *   - GAFFREEL_SHORT;
+ *   - GAFFREEL_SUPERBLOCK where the superblock is not zero.
+ */
+uint32_t gaffreel_volume_format(uint8_t *volume, size_t volume_length, size_t reserved, size_t shift, size_t width,
+                                size_t sections, size_t provided, uint8_t *answer, size_t answer_length);
+
+/*
+ * Writes the layout that the superblock behind `reserved` sectors holds to `layout`, for a caller that has only a volume.
+ * Answer: the bytes that staging must have.
+ *
+ * Refused, in this order, with
+ *   - GAFFREEL_LENGTH_OR_LIMIT where layout_length is not GAFFREEL_VOLUME_LAYOUT_SIZE, answer_length is not
+ *     GAFFREEL_VOLUME_ANSWER_SIZE, or the volume is not whole sectors or has more than 65,536;
+ *   - GAFFREEL_OUT_OF_RANGE where reserved is more than 64;
+ *   - GAFFREEL_SHORT where the volume has no room for a superblock there;
+ *   - GAFFREEL_SUPERBLOCK where the superblock is zero;
+ *   - GAFFREEL_INVALID;
+ *   - GAFFREEL_SHORT where the volume is shorter than its layout.
+ */
+uint32_t gaffreel_volume_query(const uint8_t *volume, size_t volume_length, size_t reserved, uint8_t *layout,
+                               size_t layout_length, uint8_t *answer, size_t answer_length);
+
+/*
+ * Opens a volume: checks it, and writes its state to `state` and an empty batch to `staging`. Nothing is stored on the
+ * volume. Answer: how many stores are to come before the volume is filling.
+ *
+ * Refused as gaffreel_volume_query is, with state_length in place of layout_length; then, in this order, with
+ *   - GAFFREEL_LENGTH_OR_LIMIT where staging_length is not what gaffreel_volume_query answers;
+ *   - GAFFREEL_EXHAUSTED;
+ *   - GAFFREEL_MISPLACED;
+ *   - GAFFREEL_SECTOR_RANGE or GAFFREEL_TAG_MISMATCH for the first entry to be replayed that has such a fault.
+ */
+uint32_t gaffreel_volume_open(const uint8_t *volume, size_t volume_length, uint8_t *staging, size_t staging_length,
+                              size_t reserved, uint8_t *state, size_t state_length, uint8_t *answer,
+                              size_t answer_length);
+
+/*
+ * Adds a logical sector with its bytes to the batch, also where the batch has that sector already.
+ *
+ * Refused, in this order, with
+ *   - GAFFREEL_LENGTH_OR_LIMIT where a buffer has a wrong length, or the state is not sound;
+ *   - GAFFREEL_NOT_NOW;
+ *   - GAFFREEL_SECTOR_RANGE;
+ *   - GAFFREEL_FULL.
+ */
+uint32_t gaffreel_volume_write(uint8_t *state, size_t state_length, uint8_t *staging, size_t staging_length,
+                               size_t sector, const uint8_t *bytes, size_t bytes_length, uint8_t *answer,
+                               size_t answer_length);
+
+/*
+ * Begins to commit the batch. Answer: 1 where the batch was empty and is acknowledged at once, 0 where committing begins.
+ *
+ * Refused, in this order, with
+ *   - GAFFREEL_LENGTH_OR_LIMIT where a buffer has a wrong length, or the state is not sound;
+ *   - GAFFREEL_NOT_NOW;
+ *   - GAFFREEL_EXHAUSTED where the batch is not empty.
+ */
+uint32_t gaffreel_volume_flush(uint8_t *state, size_t state_length, uint8_t *answer, size_t answer_length);
+
+/*
+ * Makes one sector store, or none where the volume is filling. Answer: 1 where a sector was stored, else 0; that sector of
+ * the volume; what the step says (enum gaffreel_volume_says).
+ *
+ * Refused, in this order, with
+ *   - GAFFREEL_LENGTH_OR_LIMIT where a buffer has a wrong length, the state is not sound, or it does not fit the volume;
+ *   - GAFFREEL_SECTOR_RANGE for the entry that is being written back or replayed.
+ */
+uint32_t gaffreel_volume_step(uint8_t *state, size_t state_length, uint8_t *volume, size_t volume_length,
+                              uint8_t *staging, size_t staging_length, uint8_t *answer, size_t answer_length);
+
+/*
+ * Makes so many steps, one after the other, as that many calls of gaffreel_volume_step would; in a recovery the journal is
+ * scanned once for all of them. Once the volume is filling or a step is refused, the steps that are left change nothing.
+ * Answer: the three numbers of the last step (0 where none was asked); how many stores were made; 1 where a step said
+ * acknowledged, else 0.
+ *
+ * Refused as gaffreel_volume_step is, where the last step is. Steps before it may have been carried out.
+ */
+uint32_t gaffreel_volume_advance(uint8_t *state, size_t state_length, uint8_t *volume, size_t volume_length,
+                                 uint8_t *staging, size_t staging_length, size_t steps, uint8_t *answer,
+                                 size_t answer_length);
+
+/*
+ * Writes the bytes of a logical sector to `bytes`: those of the newest entry for it in the batch, else the volume's.
+ *
+ * Refused, in this order, with
+ *   - GAFFREEL_LENGTH_OR_LIMIT where a buffer has a wrong length, the state is not sound, or it does not fit the volume;
+ *   - GAFFREEL_NOT_NOW while the volume is recovering;
+ *   - GAFFREEL_SECTOR_RANGE;
+ *   - GAFFREEL_TAG_MISMATCH.
+ */
+uint32_t gaffreel_volume_read(const uint8_t *state, size_t state_length, const uint8_t *volume, size_t volume_length,
+                              const uint8_t *staging, size_t staging_length, size_t sector, uint8_t *bytes,
+                              size_t bytes_length, uint8_t *answer, size_t answer_length);
 
 /*
  * ---- The hash tree (dm-verity, format 1)

@@ -1,33 +1,14 @@
 /* The digest's calls of the C interface: published vectors of SHA-256, and each refusal. Also compiled as C++. */
 #undef NDEBUG
 
+#include "buffers.h"
 #include "gaffreel.h"
 
 #include <assert.h>
 #include <stdio.h>
 #include <string.h>
 
-enum { DIGEST = GAFFREEL_SHA256_DIGEST_SIZE, STATE = GAFFREEL_SHA256_STATE_SIZE, COUNT_AT = 96, MARK = 0xa5 };
-
-/* The value of a hexadecimal digit. */
-static uint8_t digit(char c) {
-    return (uint8_t)(c <= '9' ? c - '0' : c - 'a' + 10);
-}
-
-static void assert_digest(const uint8_t *digest, const char *hex) {
-    size_t i;
-    for (i = 0; i < DIGEST; i++) {
-        assert(digest[i] == digit(hex[2 * i]) * 16 + digit(hex[2 * i + 1]));
-    }
-}
-
-/* Every byte of the buffer is MARK, as it was before the call. */
-static void assert_untouched(const uint8_t *buffer, size_t length) {
-    size_t i;
-    for (i = 0; i < length; i++) {
-        assert(buffer[i] == MARK);
-    }
-}
+enum { DIGEST = GAFFREEL_SHA256_DIGEST_SIZE, STATE = GAFFREEL_SHA256_STATE_SIZE, COUNT_AT = 96 };
 
 /* A message in one call, and cut in two at each place. */
 static void test_vector(const char *text, const char *hex) {

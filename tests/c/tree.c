@@ -1,6 +1,7 @@
 /* The hash tree's calls of the C interface: a tree that veritysetup made, damage, and each refusal. Also compiled as C++. */
 #undef NDEBUG
 
+#include "buffers.h"
 #include "gaffreel.h"
 
 #include <assert.h>
@@ -15,31 +16,10 @@ enum {
     COUNT = 129,
     IMAGE = COUNT * BLOCK,
     TREE = 3 * BLOCK,
-    SALT = 8,
-    MARK = 0xa5
+    SALT = 8
 };
 
 static uint8_t image[IMAGE], tree[TREE], salt[GAFFREEL_TREE_LONGEST_SALT + 1], root[DIGEST];
-
-/* The value of a hexadecimal digit. */
-static uint8_t digit(char c) {
-    return (uint8_t)(c <= '9' ? c - '0' : c - 'a' + 10);
-}
-
-static void assert_digest(const uint8_t *digest, const char *hex) {
-    size_t i;
-    for (i = 0; i < DIGEST; i++) {
-        assert(digest[i] == digit(hex[2 * i]) * 16 + digit(hex[2 * i + 1]));
-    }
-}
-
-/* Every byte of the buffer is MARK, as it was before the call. */
-static void assert_untouched(const uint8_t *buffer, size_t length) {
-    size_t i;
-    for (i = 0; i < length; i++) {
-        assert(buffer[i] == MARK);
-    }
-}
 
 static uint8_t *block(size_t index) {
     return image + index * BLOCK;
