@@ -128,7 +128,7 @@ module _ (s : State) (v st : List ℕ) where
     unfolding stepOf
     tested = rw (sound, fits, staging)
 
-    in-phase : (p : Phase) → s .phase ≡ p → stepOf s v st ≡ stepBy s v st (firstMet (rangeRows s v st p) passed)
+    pub in-phase : (p : Phase) → s .phase ≡ p → stepOf s v st ≡ stepBy s v st (firstMet (rangeRows s v st p) passed)
     in-phase p q = tested ∙ ap (λ (x : Phase). stepBy s v st (firstMet (rangeRows s v st x) passed)) q
 
     out-of-range : (p : Phase) → s .phase ≡ p → (r : Refusal) → firstMet (rangeRows s v st p) passed ≡ refused r → (o : Stepped) → Refuses o r
