@@ -4,7 +4,10 @@ use Rattle.volume.proofs.advance.one_more.Statement.{statement}
 use Rattle.volume.proofs.advance.one_more.Tie as tie
 
 returns : tie.Need-returns
-returns c = counted (c .before .before .before .before .before .args .last) (c .before .before .before .before .before .args .stepped) (c .before .before .before .before .stores-in .result) (c .before .before .before .acknowledges .result) (c .before .before .before .before .stores-in .ensures .0) (c .before .before .before .acknowledges .ensures)
+returns c =
+    let start = c .before .before .before .before .before in
+    let count = c .before .before .before .before .stores-in in
+    counted (start .args .last) (start .args .stepped) (count .result) (c .before .before .before .acknowledges .result) (count .ensures .0) (c .before .before .before .acknowledges .ensures)
 
 pub one-more-spec : {M : Type 1} → statement M
 one-more-spec = tie.close (tie.spec (λ c κs. search needs) (λ c κs. search needs) (λ c. search needs) returns)

@@ -1,4 +1,4 @@
-use Prim.Native.Nat.{ℕ, _+_, _-_, _≤_}
+use Prim.Native.Nat.{ℕ, _-_, _≤_}
 use mathlib.Core.Path.{refl, sym, ap, _∙_, _≡_}
 use native.Mathlib.Omega.{arith}
 use lib.ListN.{length}
@@ -21,80 +21,110 @@ abbrev μ-loop : tie.MeasureT-loop
 
 locate-requires : tie.Need-locate-requires Inv-loop μ-loop
 locate-requires c κs =
-    let s = c .before .before .before .before .before .args .before .state in
-    let v = c .before .before .before .before .before .args .v .now in
-    (state-layout s (c .before .before .before .before .before .pre .1), fit-room s v (c .before .before .before .before .before .pre .2), c .before .before .before .before .before .pre .4, omega (arith, c .before .before .before .before .before .pre .5, scan-total (s .layout) v (c .before .before .before .before .before .args .found) (c .before .before .before .before .before .pre .4)))
+    let start = c .before .before .before .before .before in
+    let s = start .args .before .state in
+    let v = start .args .v .now in
+    (state-layout s (start .pre .1), fit-room s v (start .pre .2), start .pre .4, omega (arith, start .pre .5, scan-total (s .layout) v (start .args .found) (start .pre .4)))
 
 loop-holds : tie.Need-loop-holds Inv-loop μ-loop
 loop-holds c =
-    let s = c .before .before .before .before .before .before .args .before .state in
-    let v = c .before .before .before .before .before .before .args .v .now in (
+    let start = c .before .before .before .before .before .before in
+    let s = start .args .before .state in
+    let v = start .args .v .now in (
       omega arith,
       refl,
       refl,
-      omega (arith, scan-total (s .layout) v (c .before .before .before .before .before .before .args .found) (c .before .before .before .before .before .before .pre .4), replay-high (s .layout) v (state-layout s (c .before .before .before .before .before .before .pre .1))),
-      begins (c .before .before .before .before .before .before .args .before) (c .before .before .before .before .before .before .pre .1) (c .before .before .before .before .before .before .args .k) (c .before .before .before .before .before .before .pre .3) v (c .before .before .before .before .before .before .args .found) (c .before .before .before .before .before .before .pre .0) (c .before .before .before .before .before .before .pre .2) (c .before .before .before .before .before .before .pre .4) (c .before .before .before .before .before .before .pre .5) (c .locate .result) (c .locate .ensures),
+      omega (arith, scan-total (s .layout) v (start .args .found) (start .pre .4), replay-high (s .layout) v (state-layout s (start .pre .1))),
+      begins (start .args .before) (start .pre .1) (start .args .k) (start .pre .3) v (start .args .found) (start .pre .0) (start .pre .2) (start .pre .4) (start .pre .5) (c .locate .result) (c .locate .ensures),
     )
 
 add-recover-step : tie.Need-add-recover-step Inv-loop μ-loop
-add-recover-step c = record { fits = omega (arith, c .before .before .loop .inv .3, c .before .before .loop .inv .2, c .before .before .loop .inv .4 .below) }
+add-recover-step c =
+    let turn = c .before .before .loop in
+    record { fits = omega (arith, turn .inv .3, turn .inv .2, turn .inv .4 .below) }
 
 recover-step-requires : tie.Need-recover-step-requires Inv-loop μ-loop
 recover-step-requires c κs =
-    ready (c .before .before .before .before .before .before .before .before .before .args .before) (c .before .before .before .before .before .before .before .before .before .pre .1) (c .before .before .before .before .before .before .before .before .before .args .k) (c .before .before .before .before .before .before .before .before .before .pre .3) (c .before .before .before .before .before .before .before .before .before .args .v .now) (c .before .before .before .before .before .before .before .before .before .args .found) (c .before .before .loop .i) (c .before .before .loop .last) (c .before .before .loop .x) (c .before .before .loop .v) (c .before .before .loop .inv .4)
+    let start = c .before .before .before .before .before .before .before .before .before in
+    let turn = c .before .before .loop in
+    ready (start .args .before) (start .pre .1) (start .args .k) (start .pre .3) (start .args .v .now) (start .args .found) (turn .i) (turn .last) (turn .x) (turn .v) (turn .inv .4)
 
 returns : tie.Need-returns Inv-loop μ-loop
-returns c = (
-  stops (c .before .before .before .before .before .before .before .before .before .before .before .before .before .before .args .before) (c .before .before .before .before .before .before .before .before .before .before .before .before .before .before .pre .1) (c .before .before .before .before .before .before .before .before .before .before .before .before .before .before .args .k) (c .before .before .before .before .before .before .before .before .before .before .before .before .before .before .pre .3) (c .before .before .before .before .before .before .before .before .before .before .before .before .before .before .args .v .now) (c .before .before .before .before .before .before .before .before .before .before .before .before .before .before .args .found) (c .before .before .before .before .before .before .before .loop .i) (c .before .before .before .before .before .before .before .loop .last) (c .before .before .before .before .before .before .before .loop .x) (c .before .before .before .before .before .before .before .loop .v) (c .before .before .before .before .before .before .before .loop .inv .4)
-      (c .before .before .before .before .recover-step .result) _ (c .before .before .before .before .recover-step .ensures) (omega (arith, c .before .stores-in .ensures .0, c .if1 .taken)),
-  omega (arith, c .before .before .before .before .before .before .before .loop .inv .4 .stores, c .before .before .before .before .before .before .before .loop .inv .0),
-)
+returns c =
+    let start = c .before .before .before .before .before .before .before .before .before .before .before .before .before .before in
+    let turn = c .before .before .before .before .before .before .before .loop in
+    let step = c .before .before .before .before .recover-step in (
+      stops (start .args .before) (start .pre .1) (start .args .k) (start .pre .3) (start .args .v .now) (start .args .found) (turn .i) (turn .last) (turn .x) (turn .v) (turn .inv .4)
+          (step .result) _ (step .ensures) (omega (arith, c .before .stores-in .ensures .0, c .if1 .taken)),
+      omega (arith, turn .inv .4 .stores, turn .inv .0),
+    )
 
 one-more-requires : tie.Need-one-more-requires Inv-loop μ-loop
 one-more-requires c κs = omega (arith, c .before .before .before .before .before .before .before .loop .inv .4 .stores, c .before .before .before .before .before .before .loop-test .taken)
 
 add-if2 : tie.Need-add-if2 Inv-loop μ-loop
-add-if2 c = record { fits = omega (arith, c .before .before .before .before .before .before .before .before .loop .inv .3, c .before .before .before .before .before .before .before .before .loop .inv .2, c .before .before .before .before .before .before .before .before .loop .inv .4 .below) }
+add-if2 c =
+    let turn = c .before .before .before .before .before .before .before .before .loop in
+    record { fits = omega (arith, turn .inv .3, turn .inv .2, turn .inv .4 .below) }
 
 add-if2-2 : tie.Need-add-if2-2 Inv-loop μ-loop
-add-if2-2 c = record { fits = omega (arith, c .before .before .before .before .before .before .before .before .loop .inv .3, c .before .before .before .before .before .before .before .before .loop .inv .2, c .before .before .before .before .before .before .before .before .loop .inv .4 .below) }
+add-if2-2 c =
+    let turn = c .before .before .before .before .before .before .before .before .loop in
+    record { fits = omega (arith, turn .inv .3, turn .inv .2, turn .inv .4 .below) }
 
 returns-2 : tie.Need-returns-2 Inv-loop μ-loop
-returns-2 c = (
-  ends (c .before .before .before .before .before .before .before .before .before .before .before .before .before .before .before .before .args .before) (c .before .before .before .before .before .before .before .before .before .before .before .before .before .before .before .before .pre .1) (c .before .before .before .before .before .before .before .before .before .before .before .before .before .before .before .before .args .k) (c .before .before .before .before .before .before .before .before .before .before .before .before .before .before .before .before .pre .3) (c .before .before .before .before .before .before .before .before .before .before .before .before .before .before .before .before .args .v .now) (c .before .before .before .before .before .before .before .before .before .before .before .before .before .before .before .before .args .found) (c .before .before .before .before .before .before .before .before .before .loop .i) (c .before .before .before .before .before .before .before .before .before .loop .last) (c .before .before .before .before .before .before .before .before .before .loop .x) (c .before .before .before .before .before .before .before .before .before .loop .v) (c .before .before .before .before .before .before .before .before .before .loop .inv .4)
-      (c .before .before .before .before .before .before .recover-step .result) _ (c .before .before .before .before .before .before .recover-step .ensures) (omega (arith, c .before .before .before .stores-in .ensures .0, c .before .before .if1 .left)) (c .before .one-more .result) (c .before .one-more .ensures),
-  omega (
-    arith,
-    c .before .before .before .before .before .before .before .before .loop-test .taken,
-    stores-next (c .before .before .before .before .before .before .before .before .before .before .before .before .before .before .before .before .args .before) (c .before .before .before .before .before .before .before .before .before .before .before .before .before .before .before .before .pre .1) (c .before .before .before .before .before .before .before .before .before .before .before .before .before .before .before .before .args .k) (c .before .before .before .before .before .before .before .before .before .before .before .before .before .before .before .before .pre .3) (c .before .before .before .before .before .before .before .before .before .before .before .before .before .before .before .before .args .v .now) (c .before .before .before .before .before .before .before .before .before .before .before .before .before .before .before .before .args .found) (c .before .before .before .before .before .before .before .before .before .loop .i) (c .before .before .before .before .before .before .before .before .before .loop .last) (c .before .before .before .before .before .before .before .before .before .loop .x) (c .before .before .before .before .before .before .before .before .before .loop .v) (c .before .before .before .before .before .before .before .before .before .loop .inv .4)
-        (c .before .before .before .before .before .before .recover-step .result) _ (c .before .before .before .before .before .before .recover-step .ensures) (omega (arith, c .before .before .before .stores-in .ensures .0, c .before .before .if1 .left)) (c .before .one-more .result) (c .before .one-more .ensures),
-  ),
-)
+returns-2 c =
+    let start = c .before .before .before .before .before .before .before .before .before .before .before .before .before .before .before .before in
+    let turn = c .before .before .before .before .before .before .before .before .before .loop in
+    let step = c .before .before .before .before .before .before .recover-step in
+    let more = c .before .one-more in
+    let count = c .before .before .before .stores-in in (
+      ends (start .args .before) (start .pre .1) (start .args .k) (start .pre .3) (start .args .v .now) (start .args .found) (turn .i) (turn .last) (turn .x) (turn .v) (turn .inv .4)
+          (step .result) _ (step .ensures) (omega (arith, count .ensures .0, c .before .before .if1 .left)) (more .result) (more .ensures),
+      omega (
+        arith,
+        c .before .before .before .before .before .before .before .before .loop-test .taken,
+        stores-next (start .args .before) (start .pre .1) (start .args .k) (start .pre .3) (start .args .v .now) (start .args .found) (turn .i) (turn .last) (turn .x) (turn .v) (turn .inv .4)
+            (step .result) _ (step .ensures) (omega (arith, count .ensures .0, c .before .before .if1 .left)) (more .result) (more .ensures),
+      ),
+    )
 
 add-next-location : tie.Need-add-next-location Inv-loop μ-loop
-add-next-location c = record { fits = omega (arith, c .before .before .before .before .before .before .before .before .before .before .loop .inv .3, c .before .before .before .before .before .before .before .before .before .before .loop .inv .2, c .before .before .before .before .before .before .before .before .before .before .loop .inv .4 .below) }
+add-next-location c =
+    let turn = c .before .before .before .before .before .before .before .before .before .before .loop in
+    record { fits = omega (arith, turn .inv .3, turn .inv .2, turn .inv .4 .below) }
 
 next-location-requires : tie.Need-next-location-requires Inv-loop μ-loop
 next-location-requires c κs =
-    continues (c .before .before .before .before .before .before .before .before .before .before .before .before .before .before .before .before .before .args .before) (c .before .before .before .before .before .before .before .before .before .before .before .before .before .before .before .before .before .pre .1) (c .before .before .before .before .before .before .before .before .before .before .before .before .before .before .before .before .before .args .k) (c .before .before .before .before .before .before .before .before .before .before .before .before .before .before .before .before .before .pre .3) (c .before .before .before .before .before .before .before .before .before .before .before .before .before .before .before .before .before .args .v .now) (c .before .before .before .before .before .before .before .before .before .before .before .before .before .before .before .before .before .args .found) (c .before .before .before .before .before .before .before .before .before .before .loop .i) (c .before .before .before .before .before .before .before .before .before .before .loop .last) (c .before .before .before .before .before .before .before .before .before .before .loop .x) (c .before .before .before .before .before .before .before .before .before .before .loop .v) (c .before .before .before .before .before .before .before .before .before .before .loop .inv .4)
-    (c .before .before .before .before .before .before .before .recover-step .result) _ (c .before .before .before .before .before .before .before .recover-step .ensures) (omega (arith, c .before .before .before .before .stores-in .ensures .0, c .before .before .before .if1 .left)) (c .before .before .one-more .result) (c .before .before .one-more .ensures)
-    (omega (arith, c .before .if2 .left, c .before .before .before .before .before .before .before .before .before .before .loop .inv .2, c .before .before .before .before .before .before .before .before .before .before .loop .inv .4 .below))
+    let start = c .before .before .before .before .before .before .before .before .before .before .before .before .before .before .before .before .before in
+    let turn = c .before .before .before .before .before .before .before .before .before .before .loop in
+    let step = c .before .before .before .before .before .before .before .recover-step in
+    let more = c .before .before .one-more in
+    continues (start .args .before) (start .pre .1) (start .args .k) (start .pre .3) (start .args .v .now) (start .args .found) (turn .i) (turn .last) (turn .x) (turn .v) (turn .inv .4)
+    (step .result) _ (step .ensures) (omega (arith, c .before .before .before .before .stores-in .ensures .0, c .before .before .before .if1 .left)) (more .result) (more .ensures)
+    (omega (arith, c .before .if2 .left, turn .inv .2, turn .inv .4 .below))
 
 loop-again : tie.Need-loop-again Inv-loop μ-loop
-loop-again c = (
-  omega (arith, c .before .before .before .before .before .before .before .before .before .before .loop-test .taken),
-  search needs,
-  c .before .before .before .before .before .before .before .before .before .before .before .loop .inv .2,
-  c .before .before .before .before .before .before .before .before .before .before .before .loop .inv .3,
-  again (c .before .before .before .before .before .before .before .before .before .before .before .before .before .before .before .before .before .before .args .before) (c .before .before .before .before .before .before .before .before .before .before .before .before .before .before .before .before .before .before .pre .1) (c .before .before .before .before .before .before .before .before .before .before .before .before .before .before .before .before .before .before .args .k) (c .before .before .before .before .before .before .before .before .before .before .before .before .before .before .before .before .before .before .pre .3) (c .before .before .before .before .before .before .before .before .before .before .before .before .before .before .before .before .before .before .args .v .now) (c .before .before .before .before .before .before .before .before .before .before .before .before .before .before .before .before .before .before .args .found) (c .before .before .before .before .before .before .before .before .before .before .before .loop .i) (c .before .before .before .before .before .before .before .before .before .before .before .loop .last) (c .before .before .before .before .before .before .before .before .before .before .before .loop .x) (c .before .before .before .before .before .before .before .before .before .before .before .loop .v) (c .before .before .before .before .before .before .before .before .before .before .before .loop .inv .4)
-      (c .before .before .before .before .before .before .before .before .recover-step .result) _ (c .before .before .before .before .before .before .before .before .recover-step .ensures) (omega (arith, c .before .before .before .before .before .stores-in .ensures .0, c .before .before .before .before .if1 .left)) (c .before .before .before .one-more .result) (c .before .before .before .one-more .ensures)
-      (omega (arith, c .before .before .if2 .left, c .before .before .before .before .before .before .before .before .before .before .before .loop .inv .2, c .before .before .before .before .before .before .before .before .before .before .before .loop .inv .4 .below)) (c .next-location .result) (c .next-location .ensures),
-)
+loop-again c =
+    let start = c .before .before .before .before .before .before .before .before .before .before .before .before .before .before .before .before .before .before in
+    let turn = c .before .before .before .before .before .before .before .before .before .before .before .loop in
+    let step = c .before .before .before .before .before .before .before .before .recover-step in
+    let more = c .before .before .before .one-more in (
+      omega (arith, c .before .before .before .before .before .before .before .before .before .before .loop-test .taken),
+      search needs,
+      turn .inv .2,
+      turn .inv .3,
+      again (start .args .before) (start .pre .1) (start .args .k) (start .pre .3) (start .args .v .now) (start .args .found) (turn .i) (turn .last) (turn .x) (turn .v) (turn .inv .4)
+          (step .result) _ (step .ensures) (omega (arith, c .before .before .before .before .before .stores-in .ensures .0, c .before .before .before .before .if1 .left)) (more .result) (more .ensures)
+          (omega (arith, c .before .before .if2 .left, turn .inv .2, turn .inv .4 .below)) (c .next-location .result) (c .next-location .ensures),
+    )
 
 returns-3 : tie.Need-returns-3 Inv-loop μ-loop
 returns-3 c =
-    let u = c .before .loop .inv .4 in
-    (λ st q. u .reach st q ∙ ap (λ (m : ℕ). advanceFrom m (advanced (c .before .before .before .before .before .before .before .before .args .before) (c .before .before .before .before .before .before .before .before .args .v .now) st)) (sym (u .stores)), omega (arith, u .stores, c .before .loop .inv .0))
+    let start = c .before .before .before .before .before .before .before .before in
+    let turn = c .before .loop in
+    let u = turn .inv .4 in
+    (λ st q. u .reach st q ∙ ap (λ (m : ℕ). advanceFrom m (advanced (start .args .before) (start .args .v .now) st)) (sym (u .stores)), omega (arith, u .stores, turn .inv .0))
 
 pub replay-from-spec : {M : Type 1} → statement M
 replay-from-spec =

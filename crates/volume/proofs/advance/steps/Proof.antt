@@ -1,5 +1,5 @@
 use Prim.Native.Nat.{_+_, _-_, _≤_}
-use mathlib.Core.Path.{refl, sym, ap, _∙_, _≡_}
+use mathlib.Core.Path.{refl, ap, _≡_}
 use native.Mathlib.Omega.{arith}
 use lib.ListN.{length}
 use borrow.Author.Needs.{needs}
@@ -25,24 +25,34 @@ one-more-requires c κs = omega (arith, c .before .before .before .before .befor
 
 returns : tie.Need-returns Inv-loop μ-loop
 returns c =
-    made-all (c .before .before .before .before .before .before .before .before .before .before .before .loop .last) (c .before .before .one-more .result) (c .before .before .before .before .before .before .before .step .result) (c .before .before .one-more .ensures) (c .before .before .before .before .before .before .before .before .before .before .before .loop .v) (c .before .before .before .before .before .before .before .before .before .before .before .loop .st) _ _ (c .before .before .before .before .before .before .before .step .ensures)
-    (advanced (c .before .before .before .before .before .before .before .before .before .before .before .before .before .before .args .before) (c .before .before .before .before .before .before .before .before .before .before .before .before .before .before .args .v .now) (c .before .before .before .before .before .before .before .before .before .before .before .before .before .before .args .st .now)) (c .before .before .before .before .before .before .before .before .before .before .before .loop .i) (c .before .before .before .before .before .before .before .before .before .before .before .loop .inv .4) (c .before .before .before .before .before .before .before .before .before .before .before .before .before .before .args .n) (c .before .before .before .before .before .before .before .before .before .before .loop-test .taken) (omega (arith, c .before .stores-in .ensures .0, c .if1 .taken))
+    let start = c .before .before .before .before .before .before .before .before .before .before .before .before .before .before in
+    let turn = c .before .before .before .before .before .before .before .before .before .before .before .loop in
+    let step = c .before .before .before .before .before .before .before .step in
+    let more = c .before .before .one-more in
+    made-all (turn .last) (more .result) (step .result) (more .ensures) (turn .v) (turn .st) _ _ (step .ensures)
+    (advanced (start .args .before) (start .args .v .now) (start .args .st .now)) (turn .i) (turn .inv .4) (start .args .n) (c .before .before .before .before .before .before .before .before .before .before .loop-test .taken) (omega (arith, c .before .stores-in .ensures .0, c .if1 .taken))
 
 loop-again : tie.Need-loop-again Inv-loop μ-loop
 loop-again c =
-    let stores : c .before .before .one-more .result .stores ≡ c .before .before .before .before .before .before .before .before .before .before .before .loop .last .stores + _ = ap (λ (a : Advanced). a .stores) (c .before .before .one-more .ensures) in (
-      omega arith,
+    let start = c .before .before .before .before .before .before .before .before .before .before .before .before .before .before in
+    let turn = c .before .before .before .before .before .before .before .before .before .before .before .loop in
+    let step = c .before .before .before .before .before .before .before .step in
+    let more = c .before .before .one-more in
+    let count = c .before .stores-in in
+    let stores : more .result .stores ≡ turn .last .stores + _ = ap (λ (a : Advanced). a .stores) (more .ensures) in (
+      omega (arith, c .before .before .before .before .before .before .before .before .before .before .loop-test .taken),
       search needs,
       search needs,
-      omega (arith, stores, c .before .stores-in .ensures .0, c .before .stores-in .ensures .1, c .before .before .before .before .before .before .before .before .before .before .before .loop .inv .3),
-      made-more (c .before .before .before .before .before .before .before .before .before .before .before .loop .last) (c .before .before .one-more .result) (c .before .before .before .before .before .before .before .step .result) (c .before .before .one-more .ensures) (c .before .before .before .before .before .before .before .before .before .before .before .loop .v) (c .before .before .before .before .before .before .before .before .before .before .before .loop .st) _ _ (c .before .before .before .before .before .before .before .step .ensures)
-          (advanced (c .before .before .before .before .before .before .before .before .before .before .before .before .before .before .args .before) (c .before .before .before .before .before .before .before .before .before .before .before .before .before .before .args .v .now) (c .before .before .before .before .before .before .before .before .before .before .before .before .before .before .args .st .now)) (c .before .before .before .before .before .before .before .before .before .before .before .loop .i) (c .before .before .before .before .before .before .before .before .before .before .before .loop .inv .4),
+      omega (arith, stores, count .ensures .0, count .ensures .1, turn .inv .3),
+      made-more (turn .last) (more .result) (step .result) (more .ensures) (turn .v) (turn .st) _ _ (step .ensures)
+          (advanced (start .args .before) (start .args .v .now) (start .args .st .now)) (turn .i) (turn .inv .4),
     )
 
 returns-2 : tie.Need-returns-2 Inv-loop μ-loop
 returns-2 c =
-    let e : c .before .loop .i ≡ c .before .before .before .before .args .n = omega arith in
-    rw e at (c .before .loop .inv .4)
+    let turn = c .before .loop in
+    let e : turn .i ≡ c .before .before .before .before .args .n = omega arith in
+    rw e at (turn .inv .4)
 
 pub steps-spec : {M : Type 1} → statement M
 steps-spec =
