@@ -384,7 +384,7 @@ fn wrapper_refusals() {
             (Err(refusal), Err(expected)) => {
                 assert_eq!(refusal.number(), expected.number());
                 let values = match expected {
-                    reference::Refusal::Mismatch(level) => vec![i64::from(level)],
+                    reference::Refusal::Mismatch(level) => vec![i128::from(level)],
                     _ => vec![],
                 };
                 assert_eq!(refusal.values(), values);
