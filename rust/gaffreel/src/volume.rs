@@ -6,6 +6,31 @@
 //! A caller that has only a volume asks [`query`] how long staging must be, then calls [`open`]; [`step`] or [`advance`]
 //! finish the recovery. While the volume is filling, [`write()`] takes sectors into a batch; [`flush`] begins to commit it,
 //! and steps store it, first in the journal, then in its place.
+//!
+//! ```
+//! use gaffreel::volume::{self, Layout, SECTOR_LENGTH};
+//!
+//! # fn main() -> Result<(), gaffreel::Refusal> {
+//! let layout = Layout { reserved: 0, log2_run: 4, tag_size: 32, sections: 1, provided: 16 };
+//! let mut bytes = vec![0; 120 * SECTOR_LENGTH];
+//! volume::format(&mut bytes, &layout)?;
+//!
+//! let mut staging = vec![0; volume::query(&bytes, 0)?.staging_length];
+//! let mut state = volume::open(&bytes, 0, &mut staging)?.state;
+//! volume::advance(&mut state, &mut bytes, &mut staging, u64::MAX).last?;
+//!
+//! volume::write(&mut state, &mut staging, 5, &[1; SECTOR_LENGTH])?;
+//! volume::flush(&mut state)?;
+//! let committed = volume::advance(&mut state, &mut bytes, &mut staging, u64::MAX);
+//! committed.last?;
+//! assert!(committed.acknowledged);
+//!
+//! let mut sector = [0; SECTOR_LENGTH];
+//! volume::read(&state, &bytes, &staging, 5, &mut sector)?;
+//! assert_eq!(sector, [1; SECTOR_LENGTH]);
+//! # Ok(())
+//! # }
+//! ```
 
 mod state;
 
