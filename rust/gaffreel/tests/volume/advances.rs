@@ -1,16 +1,16 @@
 //! So many steps at once against as many single ones, and a whole recovery against the reference's.
 
 use crate::any_input::any_loans;
-use crate::loans::Loans;
+use crate::by_reference::put_state;
+use crate::loans::{Loans, DONE};
 use gaffreel::ffi;
+use gaffreel::volume::STATE_LENGTH;
 use random::{cases, Random};
-use reference::volume::{self, Half, Phase, State};
+use reference::volume::{self, Half, Layout, Phase, State};
 use volumes::any::{any_layout, any_section, small_layout, with_journal};
-use volumes::{empty_staging, geometry};
+use volumes::{empty_staging, formatted, geometry};
 
-const DONE: u32 = 0;
-
-/// What an answer's buffer holds after a call that was refused, in its first three numbers, or after a step.
+/// A step by the proved library: its number, and the first three of its answer.
 fn step(loans: &mut Loans) -> (u32, [u64; 3]) {
     let number = ffi::volume_step(
         loans.state.buffer(),
@@ -111,7 +111,7 @@ fn advance_of_any_input() {
 #[test]
 fn each_number_of_steps() {
     cases(1, |random| {
-        let layout = volume::Layout {
+        let layout = Layout {
             reserved: 0,
             log2_run: 3,
             tag_size: 32,
@@ -120,7 +120,7 @@ fn each_number_of_steps() {
         };
         let geometry = geometry(&layout);
         let staging = empty_staging(&geometry);
-        let mut loans = Loans::new(random, &volumes::formatted(&layout, 0), &staging);
+        let mut loans = Loans::new(random, &formatted(&layout, 0), &staging);
         assert_eq!(loans.open(0), DONE);
         for sector in [8, 3] {
             assert_eq!(loans.write(sector), DONE);
@@ -165,8 +165,8 @@ fn whole_recoveries() {
         assert_eq!(number, DONE);
         assert_eq!(loans.answer(), [0, 0, 2, opened.stores_to_come, 0]);
         assert!(loans.volume.bytes() == expected);
-        let mut expected_state = loans.clone();
-        expected_state.put_state(&state);
-        assert_eq!(loans.state(), expected_state.state());
+        let mut expected_state = [0; STATE_LENGTH];
+        put_state(&mut expected_state, &state);
+        assert_eq!(loans.state.bytes(), expected_state);
     });
 }

@@ -1,7 +1,6 @@
 //! Volumes, staging, states and arguments of any kind, single calls and calls in a row.
 
-use crate::by_reference::numbers_in;
-use crate::loans::Loans;
+use crate::loans::{Loans, DONE};
 use random::{cases, Lent, Random};
 use reference::volume::{Layout, Phase, State};
 use volumes::any::{any_layout, any_number, any_section, any_staging, any_state, any_volume};
@@ -107,10 +106,8 @@ fn calls_in_a_row() {
         let layout = small_layout(random);
         let volume = with_journal(random, &layout);
         let mut loans = Loans::new(random, &volume, &[]);
-        if loans.query(layout.reserved) != 0 {
-            return;
-        }
-        let length = numbers_in(loans.answer.bytes())[0] as usize;
+        assert_eq!(loans.query(layout.reserved), DONE);
+        let length = loans.answer()[0] as usize;
         loans.staging = Lent::new(random, length);
         loans.open(layout.reserved);
         for _ in 0..30 {

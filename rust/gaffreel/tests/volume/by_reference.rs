@@ -1,9 +1,9 @@
 //! The functions of `gaffreel::ffi` as the reference has them: the C interface's rules for buffers, then its calls.
 
+use crate::loans::DONE;
 use gaffreel::volume::{ANSWER_LENGTH, LAYOUT_LENGTH, STATE_LENGTH};
 use reference::volume::{self, Flushed, Half, Layout, Phase, Refusal, Said, State, Stepped};
 
-const DONE: u32 = 0;
 const WRONG_LENGTH: u32 = 1;
 
 /// The numbers that a call which is carried out leaves in the answer's buffer.

@@ -24,7 +24,7 @@ pub fn volume_format(
     let answer = answer_in(answer)?;
     let formatted = volume::format(volume, &layout);
     assert_ne!(formatted, Err(Refusal::SuperblockZero));
-    reply(answer, formatted.map(|()| [0; 5]))
+    Some(reply(answer, formatted.map(|()| [0; 5])))
 }
 
 pub fn volume_query(
@@ -41,7 +41,7 @@ pub fn volume_query(
         *layout = queried.layout.to_bytes();
         [queried.staging_length as u64, 0, 0, 0, 0]
     });
-    reply(answer, numbers)
+    Some(reply(answer, numbers))
 }
 
 pub fn volume_open(
@@ -59,7 +59,7 @@ pub fn volume_open(
         *state = opened.state.to_bytes();
         [opened.stores_to_come, 0, 0, 0, 0]
     });
-    reply(answer, numbers)
+    Some(reply(answer, numbers))
 }
 
 pub fn volume_write(
@@ -73,7 +73,7 @@ pub fn volume_write(
     let written = on(state, |state| {
         volume::write(state, staging, sector as u64, bytes)
     });
-    reply(answer, written?.map(|()| [0; 5]))
+    Some(reply(answer, written?.map(|()| [0; 5])))
 }
 
 pub fn volume_flush(state: &mut [u8], answer: &mut [u8]) -> Option<u32> {
@@ -82,7 +82,7 @@ pub fn volume_flush(state: &mut [u8], answer: &mut [u8]) -> Option<u32> {
         Flushed::Acknowledged => [1, 0, 0, 0, 0],
         Flushed::Committing => [0; 5],
     });
-    reply(answer, numbers)
+    Some(reply(answer, numbers))
 }
 
 pub fn volume_step(
@@ -93,7 +93,7 @@ pub fn volume_step(
 ) -> Option<u32> {
     let answer = answer_in(answer)?;
     let stepped = on(state, |state| volume::step(state, volume, staging))?;
-    reply(answer, stepped.map(step_numbers))
+    Some(reply(answer, stepped.map(step_numbers)))
 }
 
 pub fn volume_advance(
@@ -110,7 +110,7 @@ pub fn volume_advance(
     let number = reply(answer, advanced.last.map(step_numbers));
     let all = [advanced.stores, u64::from(advanced.acknowledged)];
     put_numbers(&mut answer[3 * 8..], &all);
-    number
+    Some(number)
 }
 
 pub fn volume_read(
@@ -125,7 +125,7 @@ pub fn volume_read(
     let read = on(&mut state.to_vec(), |state| {
         volume::read(state, volume, staging, sector as u64, bytes)
     });
-    reply(answer, read?.map(|()| [0; 5]))
+    Some(reply(answer, read?.map(|()| [0; 5])))
 }
 
 /// Makes a call on the state in a buffer, if there is one.
@@ -142,7 +142,8 @@ fn answer_in(answer: &mut [u8]) -> Option<&mut [u8; ANSWER_LENGTH]> {
     answer.try_into().ok()
 }
 
-fn reply(answer: &mut [u8; ANSWER_LENGTH], outcome: Result<[u64; 5], Refusal>) -> Option<u32> {
+/// Writes what a call said to the answer's buffer, and gives its number.
+fn reply(answer: &mut [u8; ANSWER_LENGTH], outcome: Result<[u64; 5], Refusal>) -> u32 {
     let (number, numbers) = match outcome {
         Ok(numbers) => (0, numbers),
         Err(refusal) => {
@@ -156,7 +157,7 @@ fn reply(answer: &mut [u8; ANSWER_LENGTH], outcome: Result<[u64; 5], Refusal>) -
         }
     };
     put_numbers(answer, &numbers);
-    Some(number)
+    number
 }
 
 fn step_numbers(stepped: Stepped) -> [u64; 5] {

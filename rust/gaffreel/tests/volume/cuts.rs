@@ -1,11 +1,10 @@
 //! Short histories with a cut after every store, and after every store of the recovery that follows.
 
-use crate::loans::Loans;
+use crate::loans::{Loans, DONE};
 use random::{cases, Random};
 use reference::volume::Layout;
 use volumes::{formatted, geometry};
 
-const DONE: u32 = 0;
 const FILLING: u64 = 2;
 
 /// Batches of sectors, written and flushed one after the other.

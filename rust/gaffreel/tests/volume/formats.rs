@@ -1,11 +1,9 @@
 //! Volumes that are formatted: every byte of them.
 
-use crate::loans::Loans;
+use crate::loans::{Loans, DONE};
 use random::{cases, Random};
 use reference::volume::Layout;
 use volumes::geometry;
-
-const DONE: u32 = 0;
 
 /// A layout in range whose volume has some hundred sectors.
 fn layout(random: &mut Random) -> Layout {

@@ -8,6 +8,9 @@ use gaffreel::volume::{ANSWER_LENGTH, LAYOUT_LENGTH, SECTOR_LENGTH, STATE_LENGTH
 use random::{Lent, Random};
 use reference::volume::{Layout, State};
 
+/// The number of a call that was carried out.
+pub const DONE: u32 = 0;
+
 #[derive(Clone)]
 pub struct Loans {
     pub state: Lent,
@@ -47,11 +50,6 @@ impl Loans {
     /// Has the state's buffer hold a state.
     pub fn put_state(&mut self, state: &State) {
         put_state(self.state.buffer(), state);
-    }
-
-    /// The numbers in the state's buffer.
-    pub fn state(&self) -> Vec<u64> {
-        numbers_in(self.state.bytes())
     }
 
     /// The numbers in the answer's buffer.
