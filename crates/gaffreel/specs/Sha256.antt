@@ -12,7 +12,7 @@
 -- newCall s                 : what gaffreel_sha256_new leaves of the state's buffer s
 -- updateCall s p            : what gaffreel_sha256_update leaves of the state's buffer s and the piece p
 -- finishCall s d            : what gaffreel_sha256_finish leaves of the state's buffer s and the digest's buffer d
-use Prim.Native.Nat.{ℕ, zero, suc, _*_, _^_, _<_}
+use Prim.Native.Nat.{ℕ, _^_, _<_}
 use mathlib.Core.Bool.{Bool}
 use mathlib.Core.List.{List, [], _∷_, _++_}
 use mathlib.Core.Path.{_≡_}
@@ -23,6 +23,7 @@ use Rattle.octets.specs.Choice.{firstMet}
 use Rattle.digest.specs.declared.Answer.{Answer}
 use Rattle.digest.specs.declared.State.{State}
 use Rattle.digest.specs.Pieces.{numberOf, freshOf, updateOf, finishOf, digestOf}
+use Rattle.gaffreel.specs.Numbers.{numbersIn, numberBytes}
 use Rattle.gaffreel.specs.Outcome.{Outcome, done, wrongLength, carriedOut, refused, differs}
 
 abbrev pub digestSize : ℕ
@@ -39,13 +40,11 @@ tailAt = 32
 abbrev pub countAt : ℕ
 countAt = 96
 
-unfoldable pub wordsOf : ℕ → List ℕ → List ℕ
-wordsOf zero b = []
-wordsOf (suc n) b = wordsOf n b ++ (value (part b (4 * n) 4) ∷ [])
+abbrev pub wordsOf : ℕ → List ℕ → List ℕ
+wordsOf n b = numbersIn 4 n b
 
-unfoldable pub wordBytesOf : List ℕ → List ℕ
-wordBytesOf [] = []
-wordBytesOf (w ∷ ws) = le 4 w ++ wordBytesOf ws
+abbrev pub wordBytesOf : List ℕ → List ℕ
+wordBytesOf ws = numberBytes 4 ws
 
 unfoldable pub decodeOf : List ℕ → State
 decodeOf b = record { words = wordsOf 8 b; tail = part b tailAt 64; count = value (part b countAt 8) }

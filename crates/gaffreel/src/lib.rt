@@ -5,6 +5,7 @@
 // refusal also returns.
 pub mod hash_tree;
 pub mod sha256;
+pub mod volumes;
 
 // The number of a call that was carried out.
 pub(crate) const DONE: u32 = 0;

@@ -1,24 +1,28 @@
 -- A scan of a journal: its tables, and the store of the replay that has a given number, section by section.
-use Prim.Native.Nat.{ℕ, zero, suc, _+_, _-_, _≤_, _<_}
+use Prim.Native.Nat.{ℕ, zero, suc, _+_, _-_, _*_, _≤_, _<_}
+use mathlib.Core.Bool.{true}
 use mathlib.Core.List.{List, [], _∷_, _++_, map, append-assoc, append-nil}
-use mathlib.Core.Path.{_≡_, refl, sym, ap, _∙_}
+use mathlib.Core.Path.{_≡_, refl, sym, ap, _∙_, subst}
 use native.Mathlib.Decide.{decLt}
 use native.Mathlib.Numerals.{add-one}
 use native.Mathlib.Omega.{arith}
 use lib.ListN.{length, take, drop, getD, length-append, List·getD-append, drop-of-length-le}
 use lib.Seq.{drop-cons, take-suc, getD-append-add}
 use Rattle.model.specs.Journal.{sectionOf, wholeIds, dueIds, Found, ordered, Replayed, usedOf, replayIn, replay}
-use Rattle.model.specs.Section.{wholeId}
+use Rattle.model.specs.Layout.{entryCount, layoutOk}
+use Rattle.model.specs.Section.{entryOf, wholeId}
 use Rattle.model.specs.Store.{Place, plan, storesOf}
-use Rattle.model.specs.Step.{noPlace}
+use Rattle.model.specs.Step.{noPlace, placeAt}
 use Rattle.model.specs.declared.Layout.{Layout}
 use Rattle.model.proofs.Journals.{replay-kept}
 use Rattle.model.proofs.Order.{ordered-cong}
-use Rattle.journal.specs.Scan.{padded, upTo, placesIn, orderOf, dueSections, sectionStores, storesFor, scanOf, placeOf}
+use Rattle.model.proofs.Plans.{home-two}
+use Rattle.journal.specs.Scan.{padded, upTo, placesIn, orderOf, dueSections, sectionStores, storesFor, scanOf, Locates, storesBelow, storesIn, storeNumber, FoundFrom, missing, found, Located}
 use Rattle.journal.specs.declared.Location.{Location}
 use Rattle.journal.specs.declared.Scan.{Scan}
-use Rattle.journal.proofs.Counts.{plan-append}
+use Rattle.journal.proofs.Counts.{plan-append, count-used, below-high, locates, number-low}
 use Rattle.journal.proofs.Ordering.{orderIn, length-order, order-below}
+use Rattle.journal.proofs.Sizes.{per-high, sections-high}
 use Rattle.journal.proofs.Tables.{getD-padded, length-upTo, getD-upTo, length-mapped, getD-mapped}
 
 module _ (g : Layout) (v : List ℕ) where
@@ -91,6 +95,16 @@ module _ (g : Layout) (v : List ℕ) where
   unfolding replay dueSections
   replay-due = replay-places (ordered (g .sections) (dueIds g v))
 
+  replayOf-high : (ks : List ℕ) → storesOf g (replayOf ks) ≤ 496 * length ks
+  replayOf-high [] = omega arith
+  replayOf-high (k ∷ ks) =
+      let sec : List ℕ = sectionOf g v k in
+      let sum = ap length (plan-append g (usedOf (g .width) k sec) (replayOf ks)) ∙ length-append (storesIn g k sec) (plan g (replayOf ks)) in
+      omega (arith, replayOf-high ks, below-high g k sec (entryCount (g .width)), per-high (g .width))
+
+  pub replay-high : layoutOk g ≡ true → storesOf g (replay g v) ≤ 31744
+  replay-high ok = omega (arith, ap (storesOf g) replay-due, replayOf-high (dueSections g v), length-due, sections-high g ok)
+
   replayOf-append : (a b : List ℕ) → replayOf (a ++ b) ≡ replayOf a ++ replayOf b
   replayOf-append [] b = refl
   replayOf-append (k ∷ a) b =
@@ -131,41 +145,92 @@ module _ (g : Layout) (v : List ℕ) where
             absurd (omega arith)
 
     module _ (i m : ℕ) (l : i < length ks) where
+      abbrev k : ℕ
+      k = getD ks i 0
+
       -- the store stands in section i
-      pub store-here : m < sectionStores g v (getD ks i 0)
-          → getD (plan g (usedOf (g .width) (getD ks i 0) (sectionOf g v (getD ks i 0)))) m noPlace ≡ getD (storesFrom i) m noPlace
+      store-here : m < sectionStores g v k → getD (storesIn g k (sectionOf g v k)) m noPlace ≡ getD (storesFrom i) m noPlace
       store-here h =
           sym (ap (λ (x : List Place). getD x m noPlace) (next i l)
-          ∙ List·getD-append (plan g (usedOf (g .width) (getD ks i 0) (sectionOf g v (getD ks i 0)))) (storesFrom (i + 1)) noPlace m h)
+          ∙ List·getD-append (storesIn g k (sectionOf g v k)) (storesFrom (i + 1)) noPlace m h)
 
-      -- it stands behind
-      pub store-behind : sectionStores g v (getD ks i 0) ≤ m → m < length (storesFrom i)
-          → (m - sectionStores g v (getD ks i 0) < length (storesFrom (i + 1)))
-          × (getD (storesFrom i) m noPlace ≡ getD (storesFrom (i + 1)) (m - sectionStores g v (getD ks i 0)) noPlace)
+      -- it stands behind, and so do those that follow
+      pub store-behind : sectionStores g v k ≤ m → m < length (storesFrom i)
+          → (m - sectionStores g v k < length (storesFrom (i + 1)))
+          × ((j : ℕ) → getD (storesFrom i) (m + j) noPlace ≡ getD (storesFrom (i + 1)) (m - sectionStores g v k + j) noPlace)
       store-behind h q =
-          let front : List Place = plan g (usedOf (g .width) (getD ks i 0) (sectionOf g v (getD ks i 0))) in
-          let c : ℕ = sectionStores g v (getD ks i 0) in
-          let total : length (storesFrom i) ≡ c + length (storesFrom (i + 1)) = ap length (next i l) ∙ length-append front (storesFrom (i + 1)) in
-          let at : c + (m - c) ≡ m = omega arith in (
+          let front : List Place = storesIn g k (sectionOf g v k) in
+          let c : ℕ = sectionStores g v k in
+          let total : length (storesFrom i) ≡ c + length (storesFrom (i + 1)) = ap length (next i l) ∙ length-append front (storesFrom (i + 1)) in (
             omega arith,
-            ap (λ (x : List Place). getD x m noPlace) (next i l)
-                ∙ ap (λ (n : ℕ). getD (front ++ storesFrom (i + 1)) n noPlace) (sym at) ∙ getD-append-add front (storesFrom (i + 1)) (m - c) noPlace,
+            λ j.
+                let at : c + (m - c + j) ≡ m + j = omega arith in
+                ap (λ (x : List Place). getD x (m + j) noPlace) (next i l)
+                ∙ ap (λ (n : ℕ). getD (front ++ storesFrom (i + 1)) n noPlace) (sym at) ∙ getD-append-add front (storesFrom (i + 1)) (m - c + j) noPlace,
           )
 
-      -- what locates it in the section locates it in the replay
-      pub located : (r : Location) (sec : List ℕ) (k n : ℕ) → k ≡ getD ks i 0 → sec ≡ sectionOf g v k → m < sectionStores g v (getD ks i 0)
-          → placeOf (g .width) sec r ≡ getD (plan g (usedOf (g .width) k sec)) m noPlace → r .section ≡ k
-          → getD (plan g (replay g v)) n noPlace ≡ getD (storesFrom i) m noPlace
-          → placeOf (g .width) (sectionOf g v (r .section)) r ≡ getD (plan g (replay g v)) n noPlace
-      located r sec k n e q h found same all =
-          let there : sectionOf g v (r .section) ≡ sec = ap (sectionOf g v) same ∙ sym q in
-          let used : ℕ → List ℕ → List Replayed = usedOf (g .width) in
-          ap (λ (x : List ℕ). placeOf (g .width) x r) there ∙ found
-          ∙ ap (λ (x : List ℕ). getD (plan g (used k x)) m noPlace) q
-          ∙ ap (λ (x : ℕ). getD (plan g (used x (sectionOf g v x))) m noPlace) e
-          ∙ store-here h ∙ sym all
+  -- ---- a store of a section as one of the replay
 
--- ---- a scan is that of every volume with the same sections
+  abbrev storesOn : ℕ → List Place
+  storesOn k = storesIn g k (sectionOf g v k)
+
+  abbrev number : Location → ℕ
+  number x = storeNumber g (sectionOf g v (x .section)) x
+
+  module _ (r : Location) (n : ℕ) where
+    by-number : r .section < g .sections → Locates g (sectionOf g v (r .section)) r (getD (storesOn (r .section)) (number r) noPlace)
+        → ((j : ℕ) → number r + j < length (storesOn (r .section)) → placeAt g v (n + j) ≡ getD (storesOn (r .section)) (number r + j) noPlace)
+        → Located g v r n
+    by-number l h onward =
+        let sec : List ℕ = sectionOf g v (r .section) in
+        let store : r .store < 2 = omega (arith, home-two g (entryOf (g .width) sec (r .entry)), h .store) in
+        let low : number r + 0 < length (storesOn (r .section)) = omega (arith, number-low g sec r (h .entry) (h .used) store) in
+        let here : placeAt g v n ≡ getD (storesOn (r .section)) (number r) noPlace =
+        ap (placeAt g v) {x = n} {y = n + 0} (omega arith) ∙ onward 0 low
+        ∙ ap (λ (m : ℕ). getD (storesOn (r .section)) m noPlace) {x = number r + 0} {y = number r} (omega arith) in
+        record { section = l; found = record { place = h .place ∙ sym here; entry = h .entry; used = h .used; store = h .store }; onward = onward }
+
+    -- what is found in section i of the replay is located in the replay
+    pub located : (ks : List ℕ) (i m : ℕ) → i < length ks → r .section ≡ getD ks i 0 → r .section < g .sections → m < sectionStores g v (getD ks i 0)
+        → FoundFrom g (sectionOf g v (r .section)) 0 m r → ((j : ℕ) → placeAt g v (n + j) ≡ getD (storesFrom ks i) (m + j) noPlace)
+        → Located g v r n
+    located ks i m l same low h (missing e few) all = absurd (omega (arith, ap (λ (k : ℕ). length (storesOn k)) same))
+    located ks i m l same low h (found p at) all =
+        by-number low p
+        (λ j q.
+        let here = ap (λ (k : ℕ). length (storesOn k)) same in
+        all j ∙ sym (store-here ks i (m + j) l (omega arith)) ∙ ap (λ (k : ℕ). getD (storesOn k) (m + j) noPlace) (sym same)
+        ∙ ap (λ (x : ℕ). getD (storesOn (r .section)) x noPlace) {x = m + j} {y = number r + j} (omega arith))
+
+  -- ---- from a store of the replay to the next
+
+  module _ (x r : Location) (n : ℕ) (at : Located g v x n) (same : r .section ≡ x .section) where
+    carried : Locates g (sectionOf g v (r .section)) r (getD (storesOn (r .section)) (number r) noPlace) → number r ≡ number x + 1 → Located g v r (n + 1)
+    carried p e =
+        by-number r (n + 1) (omega (arith, at .section)) p
+        (λ j q.
+        let here = ap (λ (k : ℕ). length (storesOn k)) same in
+        ap (placeAt g v) {x = n + 1 + j} {y = n + (j + 1)} (omega arith) ∙ at .onward (j + 1) (omega arith)
+        ∙ ap (λ (k : ℕ). getD (storesOn k) (number x + (j + 1)) noPlace) (sym same)
+        ∙ ap (λ (m : ℕ). getD (storesOn (r .section)) m noPlace) {x = number x + (j + 1)} {y = number r + j} (omega arith))
+
+    -- the store after the last one of an entry is the first one of the next used entry
+    pub next-entry : 2 ≤ x .store + 1 → FoundFrom g (sectionOf g v (r .section)) (x .entry + 1) 0 r → r .entry < entryCount (g .width) → Located g v r (n + 1)
+    next-entry s (missing e few) l = absurd (omega arith)
+    next-entry s (found p e) l =
+        let store : x .store < 2 = omega (arith, home-two g (entryOf (g .width) (sectionOf g v (x .section)) (x .entry)), at .found .store) in
+        let before = ap (λ (k : ℕ). length (storesBelow g k (sectionOf g v k) (x .entry + 1))) same in
+        let both = count-used g (x .section) (sectionOf g v (x .section)) (x .entry) (at .found .used) in
+        carried p (omega arith)
+
+  -- the store after another one is of the same entry
+  pub next-store : (x : Location) (n : ℕ) → Located g v x n → x .store + 1 < 2
+      → Located g v (record { section = x .section; entry = x .entry; store = x .store + 1 }) (n + 1)
+  next-store x n at s =
+      let r : Location = record { section = x .section; entry = x .entry; store = x .store + 1 } in
+      carried x r n at refl (locates g (sectionOf g v (x .section)) r (at .found .entry) (at .found .used) s) (omega arith)
+
+-- ---- a scan, and what is located with it, is that of every volume with the same sections
 
 module _ (g : Layout) (v w : List ℕ) (same : (k : ℕ) → k < g .sections → sectionOf g v k ≡ sectionOf g w k) where
   ids-same : (n : ℕ) → n ≤ g .sections → upTo n (wholeIds g v) ≡ upTo n (wholeIds g w)
@@ -196,3 +261,22 @@ module _ (g : Layout) (v w : List ℕ) (same : (k : ℕ) → k < g .sections →
   pub scan-kept : scanOf g v ≡ scanOf g w
   unfolding scanOf
   scan-kept = λ i. record { ids = padded (ids-same (g .sections) (omega arith) i); order = orderOf (due-same i); stores = stores-same i }
+
+  pub located-kept : (x : Location) (n : ℕ) → Located g v x n → Located g w x n
+  located-kept x n at =
+      let sec : sectionOf g v (x .section) ≡ sectionOf g w (x .section) = same (x .section) (at .section) in
+      let places : plan g (replay g v) ≡ plan g (replay g w) = ap (plan g) (replay-kept g v w same) in
+      record {
+        section = at .section;
+        found =
+            subst (λ (y : List ℕ). Locates g y x (placeAt g w n)) sec
+            (subst (λ (L : List Place). Locates g (sectionOf g v (x .section)) x (getD L n noPlace)) places (at .found));
+        onward =
+            subst (λ (y : List ℕ). Onward y (plan g (replay g w))) sec
+            (subst (λ (L : List Place). Onward (sectionOf g v (x .section)) L) places (at .onward));
+      }
+    where
+      Onward : List ℕ → List Place → Type 0
+      Onward y L =
+          (j : ℕ) → storeNumber g y x + j < length (storesIn g (x .section) y)
+          → getD L (n + j) noPlace ≡ getD (storesIn g (x .section) y) (storeNumber g y x + j) noPlace

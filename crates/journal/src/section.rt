@@ -8,14 +8,13 @@ use model::Layout;
 ghost use mathlib.Core.Bool.{true};
 ghost use mathlib.Core.Path.{_≡_};
 ghost use Prim.Native.Nat.{ℕ, _+_, _*_, _≤_, _<_};
-ghost use lib.ListN.{length, take, getD};
+ghost use lib.ListN.{length, take};
 ghost use Rattle.octets.specs.Sectors.{sectorSize, sectorAt};
 ghost use Rattle.model.specs.Layout.{entrySize, entryCount, sectionSize, layoutOk};
 ghost use Rattle.model.specs.Section.{idOf, metadataOf, entryOffset, entryOf, putEntry, greatestIn, emptySector, emptySection};
 ghost use Rattle.model.specs.Journal.{usedOf};
-ghost use Rattle.model.specs.Store.{plan, storesOf};
-ghost use Rattle.model.specs.Step.{noPlace};
-ghost use Rattle.journal.specs.Scan.{Locates};
+ghost use Rattle.model.specs.Store.{storesOf};
+ghost use Rattle.journal.specs.Scan.{FoundFrom};
 
 // The logical sector of an unused entry.
 pub const UNUSED: u64 = 18446744073709551615;
@@ -169,14 +168,15 @@ pub fn stores_in(g: Layout, section: &[u8]) -> usize
     stores
 }
 
-// Store n of section k.
-pub fn location_in(g: Layout, section: &[u8], k: usize, n: usize) -> Location
-    requires { ⌜ (layoutOk g ≡ true) × (length (now section) ≡ sectionSize (g .width) * sectorSize) × (n < storesOf g (usedOf (g .width) k (now section))) ⌝ }
-    ensures { λ r. ⌜ Locates g (now (section .entry)) r (getD (plan g (usedOf (g .width) k (now (section .entry)))) n noPlace) × (r .section ≡ k) ⌝ }
+// Store n of those that bring the entries of section k from `from` on home; its entry is E where there are not so many.
+pub fn location_in(g: Layout, section: &[u8], k: usize, from: usize, n: usize) -> Location
+    requires { ⌜ (layoutOk g ≡ true) × (length (now section) ≡ sectionSize (g .width) * sectorSize) ⌝ }
+    ensures { λ r. ⌜ FoundFrom g (now (section .entry)) from n r × (r .section ≡ k) ⌝ }
 {
+    let count = layout::entry_count(g.width);
     let mut left = n;
-    let mut i = 0;
-    loop {
+    let mut i = from;
+    while i < count {
         if entry_sector(section, g.width, i) != UNUSED {
             if left < HOME_STORES {
                 return Location {
@@ -188,5 +188,10 @@ pub fn location_in(g: Layout, section: &[u8], k: usize, n: usize) -> Location
             left -= HOME_STORES;
         }
         i += 1;
+    }
+    Location {
+        section: k,
+        entry: count,
+        store: 0,
     }
 }

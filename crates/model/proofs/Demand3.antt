@@ -39,6 +39,7 @@ use Rattle.model.proofs.Cuts.{and-false, cuts}
 use Rattle.model.proofs.Steps.{Inv, never, Fills, FillsLive, sound, sound-volume, sound-staging, step-keeps}
 use Rattle.model.proofs.Batches.{Filled, it, filled, write-keeps, flush-keeps}
 use Rattle.model.proofs.Opens.{open-keeps}
+use Rattle.model.specs.declared.FormatAnswer.the-variants.{Formatted}
 use Rattle.model.specs.declared.Layout.{Layout}
 use Rattle.model.specs.declared.Phase.{Phase}
 use Rattle.model.specs.declared.Phase.the-variants.{Filling, Committing, WritingBack, Recovering}
@@ -235,5 +236,8 @@ demand3 tag g sz v e es q =
 tag-length : (t : ℕ) → t ≤ 32 → (s : ℕ) (b : List ℕ) → length (tagOf t s b) ≡ t
 tag-length t h s b = length-take-le t (sha256 (le 8 s ++ b)) (rw (length-sha256 (le 8 s ++ b)) h)
 
+pub formatted-length : (g : Layout) (v : List ℕ) → formatOf (tagOf (g .width)) g v .answer ≡ Formatted → (s : ℕ) (b : List ℕ) → length (tagOf (g .width) s b) ≡ g .width
+formatted-length g v e = tag-length (g .width) (size-bound (ranged g (format-layout (tagOf (g .width)) g v e) .t))
+
 pub demand3-sha256 : Demand3Sha256
-demand3-sha256 g v e = demand3 (tagOf (g .width)) g (tag-length (g .width) (size-bound (ranged g (format-layout (tagOf (g .width)) g v e) .t))) v e
+demand3-sha256 g v e = demand3 (tagOf (g .width)) g (formatted-length g v e) v e

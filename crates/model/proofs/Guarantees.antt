@@ -18,7 +18,7 @@ use Rattle.model.specs.declared.State.{State}
 use Rattle.model.specs.Layout.{sectionSize, needed}
 use Rattle.model.specs.Section.{Entry, entryOf, emptySection}
 use Rattle.model.specs.Journal.{greatestId, replay}
-use Rattle.model.specs.Tag.{Tag}
+use Rattle.model.specs.Tag.{Tag, tagOf}
 use Rattle.model.specs.Store.{storesOf}
 use Rattle.model.specs.State.{stagingOk, passed}
 use Rattle.model.specs.Step.{StepResult, commitStep, homeStep, phaseStep, stepOf}
@@ -29,14 +29,14 @@ use Rattle.model.proofs.Plans.{at-get}
 use Rattle.model.proofs.Invariant.{Setting, stateAt, Disk, AtRecover, Lives, stopped, filling, committing, writingBack, recovering}
 use Rattle.model.specs.Open.{openedState, OpenResult, openBy, openOf}
 use Rattle.model.proofs.Steps.{live-runs, replay-stays, recover-next}
-use Rattle.model.proofs.Opens.{open-runs, open-refused}
+use Rattle.model.proofs.Opens.{decoded, open-runs, open-refused}
 use Rattle.model.proofs.Replays.{Which, isTrue, isFalse, which}
 use Rattle.model.specs.Format.{formatOf}
-use Rattle.model.specs.Guarantees.{Outside, Guarantees, Guaranteed}
+use Rattle.model.specs.Guarantees.{Outside, Guarantees, Guaranteed, GuaranteedSha256}
 use Rattle.model.proofs.Cuts.{cuts}
 use Rattle.model.proofs.Volumes.{part-bytes}
 use Rattle.model.proofs.Formats.{Fresh, format-fresh}
-use Rattle.model.proofs.Demand3.{setting, I, starts, plays, lasts}
+use Rattle.model.proofs.Demand3.{formatted-length, setting, I, starts, plays, lasts}
 
 staging-ok : (g : Layout) (st : List ℕ) → length st ≡ sectionSize (g .width) * 512 → stagingOk g st ≡ true
 unfolding stagingOk
@@ -194,6 +194,12 @@ module _ (tag : Tag) (g : Layout) (v₀ : List ℕ) (X : Setting tag g v₀) whe
         tags = λ s k. inr (omega (arith, tag-room g (X .ranged) s k, tag-inside g (X .ranged) s, tag-sector g (X .ranged) s));
       }
 
+  lives-layout : (v : List ℕ) (l : Ledger) (s : State) (st : List ℕ) → Lives tag g v₀ v l (on s st) → s .layout ≡ g
+  lives-layout v l s st (filling n m _ D A) = refl
+  lives-layout v l s st (committing n m j _ p A) = refl
+  lives-layout v l s st (writingBack n m i h _ D A) = refl
+  lives-layout v l s st (recovering m k _ D A) = refl
+
   all-hold : (w : World) (l : Ledger) → Keeps w l → Guarantees tag g v₀ w l
   all-hold w l J =
       record {
@@ -203,6 +209,8 @@ module _ (tag : Tag) (g : Layout) (v₀ : List ℕ) (X : Setting tag g v₀) whe
         counts = λ st s n e o k h.
             let a = taken-runs (w .medium) l (subst (Lives tag g v₀ (w .medium) l) e (J .lives)) st s n o in
             rw (a .1) (counted w l st e (J .lives) (a .0) k (rw (a .1) at h));
+        layout = decoded tag g v₀ X (w .medium) l (disk w l J);
+        live = λ s st e. lives-layout (w .medium) l s st (subst (Lives tag g v₀ (w .medium) l) e (J .lives));
         untouched = λ b o. disk w l J .kept b o;
         behind = λ a h. part-bytes (w .medium) v₀ (a * 512) 512 (disk w l J .sized) (λ i k. disk w l J .kept (a * 512 + i) (outside-behind (a * 512 + i) (omega arith)));
       }
@@ -213,3 +221,6 @@ guaranteed tag g sz v e es =
     let X : Setting tag g (formatOf tag g v .volume) = setting tag g sz (formatOf tag g v .volume) F in
     all-hold tag g (formatOf tag g v .volume) X _ _
     (lasts tag g (formatOf tag g v .volume) X (begin (formatOf tag g v .volume)) start es (starts tag g (formatOf tag g v .volume) X F))
+
+pub guaranteed-sha256 : GuaranteedSha256
+guaranteed-sha256 g v e = guaranteed (tagOf (g .width)) g (formatted-length g v e) v e

@@ -17,4 +17,5 @@ pub mod Opens
 pub mod Formats
 pub mod Demand3
 pub mod Guarantees
+pub mod Advances
 pub mod ReadBack

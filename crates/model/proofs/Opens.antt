@@ -72,7 +72,7 @@ module _ (tag : Tag) (g : Layout) (v₀ : List ℕ) (X : Setting tag g v₀)
   super-at : superblockAt (g .reserved) v ≡ superblockOf g
   super-at = low-kept tag g v₀ (X .ranged) v (l .contents) D (g .reserved * 512) 4096 (omega arith) ∙ (X .super)
 
-  decoded : layoutIn (g .reserved) (superblockAt (g .reserved) v) ≡ g
+  pub decoded : layoutIn (g .reserved) (superblockAt (g .reserved) v) ≡ g
   decoded = ap (layoutIn (g .reserved)) super-at ∙ super-decoded g (X .ranged)
 
   long : needed g * 512 ≤ length v

@@ -3,17 +3,18 @@
 -- AdvanceResult       : what they leave: the last step's answer, how many stores were made, whether a step said acknowledged; state, volume and staging
 -- noStep s v st       : what no step leaves
 -- oneMore o           : what steps that left o and one step more leave
+-- advanceFrom n o     : what steps that left o and n steps more leave
 -- advanceOf n s v st  : the call: n steps
 use Prim.Native.Nat.{ℕ, zero, suc, _+_}
 use mathlib.Core.Bool.{Bool, true, false}
 use mathlib.Core.List.{List}
 use Rattle.octets.specs.Choice.{pick}
-use Rattle.model.specs.declared.Done.the-variants.{Idle}
+use Rattle.model.specs.declared.Done.the-variants.{Idle, Stored}
 use Rattle.model.specs.declared.Says.the-variants.{Nothing}
 use Rattle.model.specs.declared.State.{State}
 use Rattle.model.specs.declared.StepAnswer.{StepAnswer}
-use Rattle.model.specs.declared.StepAnswer.the-variants.{Stepped}
-use Rattle.model.specs.Store.{Effect, none, one, afterEffect}
+use Rattle.model.specs.declared.StepAnswer.the-variants.{Stepped, Refused}
+use Rattle.model.specs.Store.{afterEffect}
 use Rattle.model.specs.Step.{StepResult, stepOf}
 use Rattle.model.specs.World.{stepAcknowledges}
 
@@ -29,15 +30,17 @@ pub record AdvanceResult : Type 0 where
 abbrev pub noStep : State → List ℕ → List ℕ → AdvanceResult
 noStep s v st = record { answer = Stepped Idle Nothing; stores = 0; acknowledged = false; state = s; volume = v; staging = st }
 
-abbrev pub storesIn : Effect → ℕ
-storesIn none = 0
-storesIn (one x) = 1
+-- a step that stored a sector names it
+abbrev pub storesIn : StepAnswer → ℕ
+storesIn (Stepped Idle says) = 0
+storesIn (Stepped (Stored at) says) = 1
+storesIn (Refused r) = 0
 
 abbrev pub stepMade : AdvanceResult → StepResult → AdvanceResult
 stepMade o x =
     record {
       answer = x .answer;
-      stores = o .stores + storesIn (x .effect);
+      stores = o .stores + storesIn (x .answer);
       acknowledged = pick (stepAcknowledges (x .answer)) true (o .acknowledged);
       state = x .state;
       volume = afterEffect (o .volume) (x .effect);
@@ -47,6 +50,9 @@ stepMade o x =
 abbrev pub oneMore : AdvanceResult → AdvanceResult
 oneMore o = stepMade o (stepOf (o .state) (o .volume) (o .staging))
 
-unfoldable pub advanceOf : ℕ → State → List ℕ → List ℕ → AdvanceResult
-advanceOf zero s v st = noStep s v st
-advanceOf (suc n) s v st = oneMore (advanceOf n s v st)
+unfoldable pub advanceFrom : ℕ → AdvanceResult → AdvanceResult
+advanceFrom zero o = o
+advanceFrom (suc n) o = oneMore (advanceFrom n o)
+
+abbrev pub advanceOf : ℕ → State → List ℕ → List ℕ → AdvanceResult
+advanceOf n s v st = advanceFrom n (noStep s v st)

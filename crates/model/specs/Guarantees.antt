@@ -5,6 +5,7 @@
 -- toldOf tag g v es    : the ledger of their transcript
 -- Outside g b          : byte b is one that no step changes
 -- Guarantees ..        : what holds of them
+-- Guaranteed           : that it does, over any tag function; GuaranteedSha256: for document 01's own tag
 use Prim.Native.Nat.{ℕ, _+_, _*_, _≤_, _<_}
 use mathlib.Core.Bool.{true}
 use mathlib.Core.Logic.{_⊎_}
@@ -18,7 +19,8 @@ use Rattle.model.specs.declared.Layout.{Layout}
 use Rattle.model.specs.declared.OpenAnswer.the-variants.{Opened}
 use Rattle.model.specs.declared.State.{State}
 use Rattle.model.specs.Layout.{sectionSize, sectionAt, base, dataAt, tagByte, needed}
-use Rattle.model.specs.Tag.{Tag}
+use Rattle.model.specs.Superblock.{superblockAt, layoutIn}
+use Rattle.model.specs.Tag.{Tag, tagOf}
 use Rattle.model.specs.Format.{formatOf}
 use Rattle.model.specs.Open.{openOf}
 use Rattle.model.specs.Step.{stepOf}
@@ -51,11 +53,20 @@ pub record Guarantees (tag : Tag) (g : Layout) (v₀ : List ℕ) (w : World) (l 
   pub counts : (staging : List ℕ) (s : State) (n : ℕ) → w .live ≡ off
       → openOf tag (g .reserved) (volumeIn (w .medium)) staging .answer ≡ Opened s n
       → (k : ℕ) → k ≤ n → after tag (g .reserved) w (anOpen staging ∷ replicate k aStep) .settled ≡ eqb k n
+  -- the superblock holds the layout that was formatted, and what is live has it
+  pub layout : layoutIn (g .reserved) (superblockAt (g .reserved) (volumeIn (w .medium))) ≡ g
+  pub live : (s : State) (staging : List ℕ) → w .live ≡ on s staging → s .layout ≡ g
   -- "Unused tag bytes are zero at format and never changed"; "Sectors behind the last run are never touched."
   pub untouched : (b : ℕ) → Outside g b → getD (volumeIn (w .medium)) b 0 ≡ getD v₀ b 0
   pub behind : (a : ℕ) → needed g ≤ a → sectorAt (volumeIn (w .medium)) a ≡ sectorAt v₀ a
 
+abbrev pub GuaranteedFor : Tag → Layout → List ℕ → Type 0
+GuaranteedFor tag g v =
+    formatOf tag g v .answer ≡ Formatted → (es : List Event) → Guarantees tag g (formatOf tag g v .volume) (worldOf tag g v es) (toldOf tag g v es)
+
 abbrev pub Guaranteed : Type 0
-Guaranteed =
-    (tag : Tag) (g : Layout) → ((s : ℕ) (bytes : List ℕ) → length (tag s bytes) ≡ g .width)
-    → (v : List ℕ) → formatOf tag g v .answer ≡ Formatted → (es : List Event) → Guarantees tag g (formatOf tag g v .volume) (worldOf tag g v es) (toldOf tag g v es)
+Guaranteed = (tag : Tag) (g : Layout) → ((s : ℕ) (bytes : List ℕ) → length (tag s bytes) ≡ g .width) → (v : List ℕ) → GuaranteedFor tag g v
+
+-- for document 01's tag nothing is left to assume
+abbrev pub GuaranteedSha256 : Type 0
+GuaranteedSha256 = (g : Layout) (v : List ℕ) → GuaranteedFor (tagOf (g .width)) g v

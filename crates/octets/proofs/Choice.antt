@@ -1,7 +1,8 @@
 -- Laws of rows of a test and an answer.
 use mathlib.Core.Bool.{Bool, true, false}
-use mathlib.Core.List.{List, [], _∷_}
-use mathlib.Core.Path.{_≡_, refl}
+use mathlib.Core.List.{List, [], _∷_, _++_}
+use mathlib.Core.Logic.{_≢_}
+use mathlib.Core.Path.{_≡_, refl, sym}
 use Rattle.octets.specs.Choice.{pick, firstMet, Unmet, NoneAnswers}
 
 module _ {A : Type 0} where
@@ -18,3 +19,17 @@ module _ {A : Type 0} where
       go : (firstMet rows z ≡ z → Unmet rows) → (t : Bool) → row .0 ≡ t → pick t (row .1) (firstMet rows z) ≡ z → Unmet (row ∷ rows)
       go ih true q e = absurd (n .0 e)
       go ih false q e = (q, ih e)
+
+  -- rows behind others answer where none of those is met
+  pub first-append : (rows more : List (Bool × A)) (z : A) → firstMet (rows ++ more) z ≡ firstMet rows (firstMet more z)
+  first-append [] more z = refl
+  first-append (row ∷ rows) more z = rw (first-append rows more z)
+
+  -- where the answer is not the last one, it is that of a row, whatever the last one is
+  pub met : (rows : List (Bool × A)) (a y z : A) → a ≢ y → firstMet rows y ≡ a → firstMet rows z ≡ a
+  met [] a y z n e = absurd (n (sym e))
+  met (row ∷ rows) a y z n e = go (met rows a y z n) (row .0) e
+    where
+      go : (firstMet rows y ≡ a → firstMet rows z ≡ a) → (t : Bool) → pick t (row .1) (firstMet rows y) ≡ a → pick t (row .1) (firstMet rows z) ≡ a
+      go ih true e = e
+      go ih false e = ih e

@@ -5,4 +5,8 @@ pub mod Flushes
 pub mod Formats
 pub mod Writes
 pub mod Steps
+pub mod Advancing
 pub mod Reading
+pub mod Queries
+pub mod Checks
+pub mod Opens

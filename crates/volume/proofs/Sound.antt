@@ -1,17 +1,21 @@
 -- Tests of states, over plain values.
 use Prim.Native.Nat.{ℕ, _*_, _≤_, _<_}
 use mathlib.Core.Bool.{Bool, true, false, not, _&&_}
-use mathlib.Core.Path.{_≡_, refl}
+use mathlib.Core.Path.{_≡_, refl, sym, ap, _∙_}
 use mathlib.Core.List.{List}
 use lib.ListN.{length}
 use lib.Dec.{leb, ltb, eqb}
-use borrow.Author.Tests.{eqb-true, leb-true, le-leb, lt-leb}
+use native.Mathlib.Omega.{arith}
+use borrow.Author.Tests.{eqb-true, eqb-false, leb-true, ltb-true, lt-ltb, le-ltb, not-true}
 use Rattle.model.proofs.Addresses.{and-both}
+use Rattle.model.proofs.Steps.{never}
 use Rattle.model.specs.declared.Layout.{Layout}
 use Rattle.model.specs.declared.Phase.{Phase}
-use Rattle.model.specs.declared.Phase.the-variants.{Committing}
+use Rattle.model.specs.declared.Phase.the-variants.{Committing, WritingBack, Recovering}
 use Rattle.model.specs.declared.State.{State}
 use Rattle.model.specs.Layout.{entryCount, sectionSize, needed, layoutOk}
+use Rattle.model.specs.Journal.{replay}
+use Rattle.model.specs.Store.{storesOf}
 use Rattle.model.specs.State.{lastId, placeOk, stateOk, stagingOk, volumeLoanOk, volumeOk, replayOk}
 
 pub place-committing : (g : Layout) (count id size : ℕ) (p : Phase) (j : ℕ) → size ≡ sectionSize (g .width) → p ≡ Committing j
@@ -46,19 +50,65 @@ state-count s e =
     let a = and-both (layoutOk (s .layout)) _ e in
     leb-true (s .count) (entryCount (s .layout .width)) (and-both (leb (s .count) (entryCount (s .layout .width))) _ (a .1) .0)
 
+-- what a sound state says of its id and its place
+
+place-of : (s : State) → stateOk s ≡ true → (not (eqb (s .id) 0) ≡ true) × (placeOk (s .layout) (s .count) (s .id) (s .phase) ≡ true)
+unfolding stateOk
+place-of s e =
+    let a = and-both (layoutOk (s .layout)) _ e in
+    let b = and-both (leb (s .count) (entryCount (s .layout .width))) _ (a .1) in
+    and-both (not (eqb (s .id) 0)) _ (b .1)
+
+pub state-id : (s : State) → stateOk s ≡ true → 0 < s .id
+state-id s e =
+    let n : s .id ≡ 0 → ⊥ = eqb-false (s .id) 0 (not-true (eqb (s .id) 0) (place-of s e .0)) in
+    omega arith
+
+pub state-committing : (s : State) → stateOk s ≡ true → (j : ℕ) → s .phase ≡ Committing j → (j < sectionSize (s .layout .width)) × (s .id < lastId)
+state-committing s e j q =
+    let p : placeOk (s .layout) (s .count) (s .id) (Committing j) ≡ true = ap (placeOk (s .layout) (s .count) (s .id)) (sym q) ∙ place-of s e .1 in
+    let a = and-both (ltb j (sectionSize (s .layout .width))) _ p in
+    let b = and-both (ltb 0 (s .count)) _ (a .1) in
+    (ltb-true j (sectionSize (s .layout .width)) (a .0), ltb-true (s .id) lastId (b .1))
+
+pub state-writing-back : (s : State) → stateOk s ≡ true → (i h : ℕ) → s .phase ≡ WritingBack i h → (i < s .count) × (i < entryCount (s .layout .width)) × (h < 2)
+state-writing-back s e i h q =
+    let p : placeOk (s .layout) (s .count) (s .id) (WritingBack i h) ≡ true = ap (placeOk (s .layout) (s .count) (s .id)) (sym q) ∙ place-of s e .1 in
+    let a = and-both (ltb i (s .count)) _ p in
+    let l = ltb-true i (s .count) (a .0) in
+    (l, omega (arith, state-count s e), ltb-true h 2 (a .1))
+
 -- ---- volumes
 
-pub volume-odd : (s : State) (v : List ℕ) → volumeLoanOk v ≡ false → false ≡ volumeOk s v
+pub volume-unfit : (s : State) (v : List ℕ) → volumeLoanOk v && leb (needed (s .layout) * 512) (length v) ≡ false → false ≡ volumeOk s v
 unfolding volumeOk
-volume-odd s v e = rw e
+volume-unfit s v e = go (volumeLoanOk v) (leb (needed (s .layout) * 512) (length v)) e
+  where
+    go : (a b : Bool) → a && b ≡ false → false ≡ a && (b && replayOk (s .layout) v (s .phase))
+    go false b q = refl
+    go true false q = refl
+    go true true q = absurd (never (sym q))
 
-pub volume-short : (s : State) (v : List ℕ) → volumeLoanOk v ≡ true → length v < needed (s .layout) * 512 → false ≡ volumeOk s v
+pub volume-fit : (s : State) (v : List ℕ) (r : Bool) → volumeLoanOk v && leb (needed (s .layout) * 512) (length v) ≡ true → r ≡ replayOk (s .layout) v (s .phase) → r ≡ volumeOk s v
 unfolding volumeOk
-volume-short s v a e = rw (a, lt-leb (needed (s .layout) * 512) (length v) e)
+volume-fit s v r e q =
+    let a = and-both (volumeLoanOk v) (leb (needed (s .layout) * 512) (length v)) e in
+    rw (a .0, a .1, q)
 
-pub volume-long : (s : State) (v : List ℕ) (r : Bool) → volumeLoanOk v ≡ true → needed (s .layout) * 512 ≤ length v → r ≡ replayOk (s .layout) v (s .phase) → r ≡ volumeOk s v
-unfolding volumeOk
-volume-long s v r a b e = rw (a, le-leb (needed (s .layout) * 512) (length v) b, e)
+pub fit-room : (s : State) (v : List ℕ) → volumeLoanOk v && leb (needed (s .layout) * 512) (length v) ≡ true → needed (s .layout) * 512 ≤ length v
+fit-room s v e = leb-true (needed (s .layout) * 512) (length v) (and-both (volumeLoanOk v) (leb (needed (s .layout) * 512) (length v)) e .1)
+
+-- the same by the phase
+module _ (s : State) (v : List ℕ) (fit : volumeLoanOk v && leb (needed (s .layout) * 512) (length v) ≡ true) where
+  pub volume-in : (p : Phase) → s .phase ≡ p → replayOk (s .layout) v p ≡ true → volumeOk s v ≡ true
+  volume-in p q e = sym (volume-fit s v true fit (sym (ap (replayOk (s .layout) v) q ∙ e)))
+
+  pub volume-below : (k : ℕ) → s .phase ≡ Recovering k → k < storesOf (s .layout) (replay (s .layout) v) → volumeOk s v ≡ true
+  volume-below k q l = volume-in (Recovering k) q (lt-ltb k (storesOf (s .layout) (replay (s .layout) v)) l)
+
+  pub volume-past : (k : ℕ) → s .phase ≡ Recovering k → storesOf (s .layout) (replay (s .layout) v) ≤ k → volumeOk s v ≡ false
+  volume-past k q l =
+      sym (volume-fit s v false fit (sym (ap (replayOk (s .layout) v) q ∙ le-ltb k (storesOf (s .layout) (replay (s .layout) v)) l)))
 
 -- what a volume that passed is good for
 pub volume-room : (s : State) (v : List ℕ) → volumeOk s v ≡ true → needed (s .layout) * 512 ≤ length v
@@ -66,3 +116,10 @@ unfolding volumeOk
 volume-room s v e =
     let a = and-both (volumeLoanOk v) _ e in
     leb-true (needed (s .layout) * 512) (length v) (and-both (leb (needed (s .layout) * 512) (length v)) _ (a .1) .0)
+
+pub volume-replay : (s : State) (v : List ℕ) → volumeOk s v ≡ true → (k : ℕ) → s .phase ≡ Recovering k → k < storesOf (s .layout) (replay (s .layout) v)
+unfolding volumeOk
+volume-replay s v e k q =
+    let a = and-both (volumeLoanOk v) _ e in
+    let b = and-both (leb (needed (s .layout) * 512) (length v)) _ (a .1) in
+    ltb-true k (storesOf (s .layout) (replay (s .layout) v)) (ap (replayOk (s .layout) v) (sym q) ∙ b .1)

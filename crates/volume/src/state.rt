@@ -4,14 +4,15 @@ use journal::layout::SECTOR_SIZE;
 use model::Layout;
 use model::Phase;
 use model::State;
-ghost use mathlib.Core.Bool.{true};
+ghost use mathlib.Core.Bool.{true, _&&_};
 ghost use mathlib.Core.Path.{_≡_};
 ghost use Prim.Native.Nat.{_*_, _≤_};
+ghost use lib.Dec.{leb};
 ghost use lib.ListN.{length};
 ghost use Rattle.model.specs.Layout.{needed, layoutOk};
 ghost use Rattle.model.specs.Journal.{replay};
 ghost use Rattle.model.specs.Store.{storesOf};
-ghost use Rattle.model.specs.State.{placeOk, stateOk, stagingOk, volumeOk, isFilling, isRecovering};
+ghost use Rattle.model.specs.State.{placeOk, stateOk, stagingOk, volumeLoanOk, volumeOk, isFilling, isRecovering};
 
 // No commit may be given this id.
 pub(crate) const LAST_ID: u64 = 18446744073709551615;
@@ -74,16 +75,22 @@ pub(crate) fn is_recovering(p: Phase) -> bool
     }
 }
 
+// Whether v is a volume that the layout fits.
+pub(crate) fn layout_fits(g: Layout, v: &[u8]) -> bool
+    requires { ⌜ layoutOk g ≡ true ⌝ }
+    ensures { λ r. ⌜ r ≡ volumeLoanOk (now (v .entry)) && leb (needed g * 512) (length (now (v .entry))) ⌝ }
+{
+    let loan = layout::volume_loan_ok(v);
+    loan & (layout::needed(g) * SECTOR_SIZE <= v.len())
+}
+
 // Whether v is a volume that the layout fits, and on which the place of a sound state exists.
 pub(crate) fn volume_ok(s: State, v: &[u8]) -> bool
     requires { ⌜ stateOk s ≡ true ⌝ }
     ensures { λ r. ⌜ r ≡ volumeOk s (now (v .entry)) ⌝ }
 {
     let g = s.layout;
-    if !layout::volume_loan_ok(v) {
-        return false;
-    }
-    if v.len() < layout::needed(g) * SECTOR_SIZE {
+    if !layout_fits(g, v) {
         return false;
     }
     let p = s.phase;

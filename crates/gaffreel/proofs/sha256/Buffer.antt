@@ -11,14 +11,15 @@ use Rattle.octets.specs.Parts.{part, patch}
 use Rattle.octets.proofs.Numbers.{length-le}
 use Rattle.octets.proofs.Parts.{length-part, length-patch, take-patch, patch-all}
 use Rattle.digest.specs.declared.State.{State}
+use Rattle.gaffreel.specs.Numbers.{numbersIn}
 use Rattle.gaffreel.specs.Sha256.{stateSize, tailAt, countAt, wordsOf, wordBytesOf, decodeOf, encodeOf}
-use Rattle.gaffreel.proofs.sha256.StateBytes.{word-bytes-last}
+use Rattle.gaffreel.proofs.Numbers.{number-bytes-last}
 
 -- ---- the loops over the words
 
 pub read-turn : (b ws : List ℕ) (i x : ℕ) → i < length ws → take i ws ≡ wordsOf i b → x ≡ value (part b (4 * i) 4)
     → take (i + 1) (set ws i x) ≡ wordsOf (i + 1) b
-unfolding wordsOf
+unfolding numbersIn
 read-turn b ws i x l e ex = rw (add-one, take-suc-set ws i x l, e, ex)
 
 -- a front that ends with a patch
@@ -29,7 +30,7 @@ pub put-turn : (ws b c : List ℕ) (i x : ℕ) → i < length ws → 4 * i + 4 �
     → c ≡ patch b (4 * i) (le 4 x) → take (4 * (i + 1)) c ≡ wordBytesOf (take (i + 1) ws)
 put-turn ws b c i x l fits e ex ec =
     let size : length (le 4 x) ≡ 4 = length-le 4 x in
-    rw (ec, front-patch b (4 * i) (wordBytesOf (take i ws)) (le 4 x) (4 * (i + 1)) e (omega arith) (omega arith), add-one, take-suc ws i 0 l, word-bytes-last, ex)
+    rw (ec, front-patch b (4 * i) (wordBytesOf (take i ws)) (le 4 x) (4 * (i + 1)) e (omega arith) (omega arith), add-one, take-suc ws i 0 l, number-bytes-last, ex)
 
 -- ---- a state put together, and taken apart
 

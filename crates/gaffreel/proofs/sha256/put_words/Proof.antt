@@ -4,6 +4,7 @@ use native.Mathlib.Omega.{arith}
 use lib.Seq.{take-all}
 use lib.ListN.{length, take}
 use borrow.Author.Needs.{needs}
+use Rattle.gaffreel.specs.Numbers.{numberBytes}
 use Rattle.gaffreel.specs.Sha256.{stateSize, wordBytesOf}
 use Rattle.gaffreel.proofs.sha256.Buffer.{put-turn}
 use Rattle.gaffreel.proofs.sha256.put_words.Statement.{statement}
@@ -16,7 +17,7 @@ abbrev μ-loop : tie.MeasureT-loop
 μ-loop buffer₀ words i₀ buffer i = 8 - i
 
 loop-holds : tie.Need-loop-holds Inv-loop μ-loop
-unfolding wordBytesOf
+unfolding numberBytes
 loop-holds c = (search needs, search needs, search needs, refl)
 
 loop-again : tie.Need-loop-again Inv-loop μ-loop

@@ -4,6 +4,7 @@ use native.Mathlib.Omega.{arith}
 use lib.Seq.{take-all}
 use lib.ListN.{length, take, length-set}
 use borrow.Author.Needs.{needs}
+use Rattle.gaffreel.specs.Numbers.{numbersIn}
 use Rattle.gaffreel.specs.Sha256.{wordsOf}
 use Rattle.gaffreel.proofs.sha256.Buffer.{read-turn}
 use Rattle.gaffreel.proofs.sha256.read_words.Statement.{statement}
@@ -16,7 +17,7 @@ abbrev μ-loop : tie.MeasureT-loop
 μ-loop buffer words₀ i₀ words i = 8 - i
 
 loop-holds : tie.Need-loop-holds Inv-loop μ-loop
-unfolding wordsOf
+unfolding numbersIn
 loop-holds c = (search needs, refl, refl)
 
 loop-again : tie.Need-loop-again Inv-loop μ-loop

@@ -1,61 +1,81 @@
-use Prim.Native.Nat.{ℕ, _+_, _-_, _<_}
+use Prim.Native.Nat.{ℕ, _+_, _-_, _≤_}
 use mathlib.Core.Logic.{⊎-elim}
 use mathlib.Core.Path.{refl, sym, _∙_, _≡_}
 use native.Mathlib.Omega.{arith}
 use lib.ListN.{length}
 use borrow.Author.Needs.{needs}
 use Rattle.model.specs.Layout.{entryCount}
-use Rattle.journal.proofs.Sizes.{width-high, per-high}
-use Rattle.journal.proofs.Counts.{storesBelow, count-used, count-unused, entries-left, store-at, store-low}
+use Rattle.journal.specs.Scan.{storesBelow, missing, found}
+use Rattle.journal.proofs.Sizes.{width-high}
+use Rattle.journal.proofs.Counts.{count-used, count-unused, below-length, locates}
 use Rattle.journal.proofs.section.location_in.Statement.{statement}
 use Rattle.journal.proofs.section.location_in.Tie as tie
 
 abbrev Inv-loop : tie.InvT-loop
-Inv-loop g section k n left₀ i₀ left i = (i < entryCount (g .width)) × (left + length (storesBelow g (g .width) k section i) ≡ n)
+Inv-loop g section k from n count left₀ i₀ left i = (count ≡ entryCount (g .width)) × (count ≤ 248) × (left + length (storesBelow g k section i) ≡ length (storesBelow g k section from) + n)
 
 abbrev μ-loop : tie.MeasureT-loop
-μ-loop g section k n left₀ i₀ left i = entryCount (g .width) - i
+μ-loop g section k from n count left₀ i₀ left i = count - i
+
+entry-count-requires : tie.Need-entry-count-requires Inv-loop μ-loop
+entry-count-requires c κs =
+    let start = c .before in
+    width-high (start .args .g) (start .pre .0)
 
 loop-holds : tie.Need-loop-holds Inv-loop μ-loop
-loop-holds c =
-    let start = c .before in
-    (entries-left (start .args .g) (start .args .g .width) (start .args .k) (start .args .section .now) 0 (entryCount (start .args .g .width)) (start .args .n) (omega arith) (omega arith) (start .pre .2), omega arith)
+loop-holds c = (c .entry-count .ensures .0, c .entry-count .ensures .1, omega arith)
 
 entry-sector-requires : tie.Need-entry-sector-requires Inv-loop μ-loop
 entry-sector-requires c κs =
-    let start = c .before .before in
+    let start = c .before .before .before .before in
     (width-high (start .args .g) (start .pre .0), omega arith, start .pre .1)
 
 returns : tie.Need-returns Inv-loop μ-loop
 returns c =
-    let turn = c .before .before .before .loop in
-    let start = c .before .before .before .before .before in
-    let g = start .args .g in
-    let found = store-at g (g .width) (start .args .k) (start .args .section .now) (turn .i) (entryCount (g .width)) (turn .left) (start .args .n) (omega arith) (omega arith)
-    (λ q. c .before .if1 .taken (c .before .before .entry-sector .ensures ∙ q)) (turn .inv .1) in (
-      record { place = found; entry = turn .inv .0; store = store-low g (g .width) (start .args .k) (start .args .section .now) (turn .i) (turn .left) (omega arith) },
-      refl,
-    )
-
-add-i : tie.Need-add-i Inv-loop μ-loop
-add-i c = record { fits = omega (arith, per-high (c .before .before .before .before .args .g .width)) }
+    let turn = c .before .before .before .before .loop in
+    let start = c .before .before .before .before .before .before .before in
+    let here = locates (start .args .g) (start .args .section .now) (record { section = start .args .k; entry = turn .i; store = turn .left }) (omega arith)
+    (λ q. c .before .if1 .taken (c .before .before .entry-sector .ensures ∙ q)) (omega arith) in
+    (found here (omega (arith, turn .inv .2)), refl)
 
 loop-again : tie.Need-loop-again Inv-loop μ-loop
 loop-again c =
-    let turn = c .before .before .loop in
-    let start = c .before .before .before .before in
+    let turn = c .before .before .before .loop in
+    let start = c .before .before .before .before .before .before in
     let g = start .args .g in
     let section = start .args .section .now in
-    let i = turn .i in
-    let next : (left : ℕ) → left + length (storesBelow g (g .width) (start .args .k) section (i + 1)) ≡ start .args .n
-    → (i + 1 < entryCount (g .width)) × (left + length (storesBelow g (g .width) (start .args .k) section (i + 1)) ≡ start .args .n) =
-    λ left e. (entries-left g (g .width) (start .args .k) section (i + 1) (entryCount (g .width)) (start .args .n) (omega arith) (omega arith) (start .pre .2), e) in
     ⊎-elim
-    (λ w. next (c .if1 .left) (omega (arith, w .1 .left, w .2, turn .inv .1, count-used g (g .width) (start .args .k) section i (λ q. w .0 .taken (c .before .entry-sector .ensures ∙ q)))))
-    (λ w. next (c .if1 .left) (omega (arith, w .1, turn .inv .1, count-unused g (g .width) (start .args .k) section i (sym (c .before .entry-sector .ensures) ∙ w .0 .left))))
+    (λ w. (
+      omega arith,
+      omega arith,
+      omega (arith, w .1 .left, w .2, turn .inv .2, count-used g (start .args .k) section (turn .i) (λ q. w .0 .taken (c .before .entry-sector .ensures ∙ q))),
+    ))
+    (λ w. (
+      omega arith,
+      omega arith,
+      omega (arith, w .1, turn .inv .2, count-unused g (start .args .k) section (turn .i) (sym (c .before .entry-sector .ensures) ∙ w .0 .left)),
+    ))
     (c .if1 .came)
+
+returns-2 : tie.Need-returns-2 Inv-loop μ-loop
+returns-2 c =
+    let turn = c .before .loop in
+    let start = c .before .before .before .before in
+    let g = start .args .g in
+    let all = below-length g (start .args .k) (start .args .section .now) (entryCount (g .width)) (turn .i) (omega arith) in
+    (missing (turn .inv .0) (omega (arith, turn .inv .2)), refl)
 
 pub location-in-spec : {M : Type 1} → statement M
 location-in-spec =
     tie.close
-    (tie.spec Inv-loop μ-loop loop-holds entry-sector-requires returns add-i (λ c. search needs) loop-again)
+    (tie.spec
+    Inv-loop
+    μ-loop
+    entry-count-requires
+    loop-holds
+    entry-sector-requires
+    returns
+    (λ c. search needs)
+    (λ c. search needs)
+    loop-again
+    returns-2)

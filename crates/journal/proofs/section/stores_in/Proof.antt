@@ -5,13 +5,14 @@ use native.Mathlib.Omega.{arith}
 use lib.ListN.{length}
 use borrow.Author.Needs.{needs}
 use Rattle.model.specs.Layout.{entryCount}
+use Rattle.journal.specs.Scan.{storesBelow}
 use Rattle.journal.proofs.Sizes.{width-high}
-use Rattle.journal.proofs.Counts.{storesBelow, count-used, count-unused}
+use Rattle.journal.proofs.Counts.{count-used, count-unused}
 use Rattle.journal.proofs.section.stores_in.Statement.{statement}
 use Rattle.journal.proofs.section.stores_in.Tie as tie
 
 abbrev Inv-loop : tie.InvT-loop
-Inv-loop g section count stores₀ i₀ stores i = (count ≡ entryCount (g .width)) × (count ≤ 248) × (i ≤ count) × (stores ≤ 2 * i) × ((k : ℕ) → stores ≡ length (storesBelow g (g .width) k section i))
+Inv-loop g section count stores₀ i₀ stores i = (count ≡ entryCount (g .width)) × (count ≤ 248) × (i ≤ count) × (stores ≤ 2 * i) × ((k : ℕ) → stores ≡ length (storesBelow g k section i))
 
 abbrev μ-loop : tie.MeasureT-loop
 μ-loop g section count stores₀ i₀ stores i = count - i
@@ -42,14 +43,14 @@ loop-again c =
       omega arith,
       omega arith,
       omega arith,
-      λ k. omega (arith, w .1, turn .inv .4 k, count-used g (g .width) k section i (λ q. w .0 .taken (c .before .entry-sector .ensures ∙ q))),
+      λ k. omega (arith, w .1, turn .inv .4 k, count-used g k section i (λ q. w .0 .taken (c .before .entry-sector .ensures ∙ q))),
     ))
     (λ w. (
       omega arith,
       omega arith,
       omega arith,
       omega arith,
-      λ k. omega (arith, w .1, turn .inv .4 k, count-unused g (g .width) k section i (sym (c .before .entry-sector .ensures) ∙ w .0 .left)),
+      λ k. omega (arith, w .1, turn .inv .4 k, count-unused g k section i (sym (c .before .entry-sector .ensures) ∙ w .0 .left)),
     ))
     (c .if1 .came)
 
@@ -59,7 +60,7 @@ returns c =
     let turn = c .before .loop in
     let g = start .args .g in
     let all : turn .i ≡ entryCount (g .width) = omega arith in
-    ((λ k. turn .inv .4 k ∙ ap (λ (n : ℕ). length (storesBelow g (g .width) k (start .args .section .now) n)) all), omega arith)
+    ((λ k. turn .inv .4 k ∙ ap (λ (n : ℕ). length (storesBelow g k (start .args .section .now) n)) all), omega arith)
 
 pub stores-in-spec : {M : Type 1} → statement M
 stores-in-spec =

@@ -1,0 +1,18 @@
+use borrow.Author.Needs.{needs}
+use mathlib.Core.Path.{sym, ap}
+use Rattle.drill.specs.Played.{liveAfter}
+use Rattle.drill.proofs.live_after.Statement.{statement}
+use Rattle.drill.proofs.live_after.Tie as tie
+
+-- src/lib.rt:142:1
+returns : tie.Need-returns
+returns c =
+    sym (ap liveAfter (c .before .a .given .1))
+
+-- src/lib.rt:142:1
+returns-2 : tie.Need-returns-2
+returns-2 c =
+    sym (ap liveAfter (c .enum-told .given .1))
+
+pub live-after-spec : {M : Type 1} → statement M
+live-after-spec = tie.close (tie.spec (λ c. search needs) (λ c. search needs) returns returns-2)

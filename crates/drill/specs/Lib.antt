@@ -1,0 +1,3 @@
+-- What a drill plays, and what it leaves.
+pub mod Script
+pub mod Played

@@ -1,0 +1,222 @@
+// Drills: a script of calls and cuts, played on a lent volume by the volume's own calls. Document 01, "The ledger of demand 3".
+//
+// `play` leaves the world that the model's definitions give for the same list, so what demand 3 says of every list holds of what ran. A script is
+// bytes, four to an event: its kind, a logical sector (2 bytes, little-endian), and a byte that fills the loans of the call. Any bytes are one.
+use model::FormatAnswer;
+use model::Layout;
+use model::OpenAnswer;
+use model::Says;
+use model::State;
+use model::StepAnswer;
+ghost use Prim.Native.Nat.{ℕ};
+ghost use mathlib.Core.Bool.{false};
+ghost use mathlib.Core.List.{List};
+ghost use mathlib.Core.Path.{_≡_};
+ghost use lib.ListN.{length};
+ghost use Rattle.model.specs.declared.FormatAnswer.the-variants.{Formatted};
+ghost use Rattle.model.specs.Format.{formatOf};
+ghost use Rattle.model.specs.Step.{stepOf};
+ghost use Rattle.model.specs.Tag.{tagOf};
+ghost use Rattle.model.specs.World.{off, on};
+ghost use Rattle.model.specs.World as lists;
+ghost use Rattle.drill.specs.Script.{eventOf};
+ghost use Rattle.drill.specs.Played.{liveOf, worldOf, liveAfter, tagFor, volumeTag, worldGiven, Plays};
+
+// The kinds of event; any other is a read.
+pub const CUT: u8 = 0;
+
+pub const OPEN: u8 = 1;
+
+pub const WRITE: u8 = 2;
+
+pub const FLUSH: u8 = 3;
+
+pub const STEP: u8 = 4;
+
+pub const READ: u8 = 5;
+
+// The bytes of an event.
+pub const EVENT_SIZE: usize = 4;
+
+const SECTOR_SIZE: usize = 512;
+
+// What is live: nothing at first and after a cut, then the state that the last call handed back.
+pub enum Live {
+    Off,
+    On(State),
+}
+
+// What is live after an event, and whether that was an open that reports no store to come, or a step that says filling.
+pub struct Moment {
+    pub live: Live,
+    pub settled: bool,
+}
+
+// What a drill hands back: format's answer, and what the last event left.
+pub struct Played {
+    pub format: FormatAnswer,
+    pub last: Moment,
+}
+
+// Formats the volume and, if that is taken, plays the script on it.
+pub fn play(g: Layout, script: &[u8], v: &mut [u8], st: &mut [u8]) -> Played
+    ensures { λ p. ⌜ Plays g (now (script .entry)) (now (v .entry)) (now (st .entry)) p (now (v .exit)) (now (st .exit)) ⌝ }
+{
+    let answer = volume::format::format(v, g);
+    match answer {
+        FormatAnswer::Formatted => {}
+        FormatAnswer::Refused(_) => {
+            return Played {
+                format: answer,
+                last: at_rest(Live::Off),
+            };
+        }
+    }
+    Played {
+        format: answer,
+        last: events(g, script, v, st),
+    }
+}
+
+// Plays the script on a volume as format left it.
+fn events(g: Layout, script: &[u8], v: &mut [u8], st: &mut [u8]) -> Moment
+    ensures { λ m. ⌜ ((u : List ℕ) → formatOf (tagOf (g .width)) g u .answer ≡ Formatted → now (v .entry) ≡ formatOf (tagOf (g .width)) g u .volume → worldOf m (now (v .exit)) (now (st .exit)) ≡ worldGiven g (now (script .entry)) u (length (now (st .entry)))) ⌝ }
+{
+    let count = script.len() / EVENT_SIZE;
+    let mut last = at_rest(Live::Off);
+    let mut i = 0;
+    while i < count {
+        let live = last.live;
+        let at = i * EVENT_SIZE;
+        let sector = octets::number(script, at + 1, 2) as usize;
+        let next = event(g.reserved, live, v, st, script[at], sector, script[at + 3]);
+        last = next;
+        i += 1;
+    }
+    last
+}
+
+// What is live after an event that settles nothing.
+fn at_rest(live: Live) -> Moment
+    ensures { λ m. ⌜ m ≡ record { live = live; settled = false } ⌝ }
+{
+    Moment {
+        live: live,
+        settled: false,
+    }
+}
+
+// One event.
+fn event(
+    r: usize,
+    live: Live,
+    v: &mut [u8],
+    st: &mut [u8],
+    kind: u8,
+    sector: usize,
+    fill: u8,
+) -> Moment
+    ensures { λ m. ⌜ worldOf m (now (v .exit)) (now (st .exit)) ≡ lists.play (tagFor r live (now (v .entry))) r (now (v .entry)) (liveOf live (now (st .entry))) (eventOf (length (now (st .entry))) kind sector fill) ⌝ }
+{
+    match live {
+        Live::Off => event_off(r, v, st, kind, sector, fill),
+        Live::On(s) => event_on(r, s, v, st, kind, sector, fill),
+    }
+}
+
+// While nothing is live only an open is made.
+fn event_off(r: usize, v: &[u8], st: &mut [u8], kind: u8, sector: usize, fill: u8) -> Moment
+    ensures { λ m. ⌜ worldOf m (now (v .entry)) (now (st .exit)) ≡ lists.play (volumeTag r (now (v .entry))) r (now (v .entry)) off (eventOf (length (now (st .entry))) kind sector fill) ⌝ }
+{
+    if kind != OPEN {
+        return at_rest(Live::Off);
+    }
+    octets::fill_at(st, 0, st.len(), fill);
+    let answer = volume::open::open(v, st, r);
+    Moment {
+        live: live_after(answer),
+        settled: nothing_to_come(answer),
+    }
+}
+
+fn live_after(a: OpenAnswer) -> Live
+    ensures { λ r. ⌜ r ≡ liveAfter a ⌝ }
+{
+    match a {
+        OpenAnswer::Opened(s, _) => Live::On(s),
+        OpenAnswer::Refused(_) => Live::Off,
+    }
+}
+
+// Whether an open was taken, and reports no store to come.
+fn nothing_to_come(a: OpenAnswer) -> bool
+    ensures { λ r. ⌜ r ≡ lists.openSettles a ⌝ }
+{
+    match a {
+        OpenAnswer::Opened(_, stores) => stores == 0,
+        OpenAnswer::Refused(_) => false,
+    }
+}
+
+// While a state is live, anything but an open.
+fn event_on(
+    r: usize,
+    s: State,
+    v: &mut [u8],
+    st: &mut [u8],
+    kind: u8,
+    sector: usize,
+    fill: u8,
+) -> Moment
+    ensures { λ m. ⌜ worldOf m (now (v .exit)) (now (st .exit)) ≡ lists.play (tagOf (s .layout .width)) r (now (v .entry)) (on s (now (st .entry))) (eventOf (length (now (st .entry))) kind sector fill) ⌝ }
+{
+    if kind == CUT {
+        return at_rest(Live::Off);
+    }
+    if kind == OPEN {
+        return at_rest(Live::On(s));
+    }
+    if kind == WRITE {
+        let bytes = [fill; SECTOR_SIZE];
+        let written = volume::write::write(s, st, sector, &bytes);
+        let next = written.state;
+        return at_rest(Live::On(next));
+    }
+    if kind == FLUSH {
+        let flushed = volume::flush::flush(s);
+        let next = flushed.state;
+        return at_rest(Live::On(next));
+    }
+    if kind == STEP {
+        return step_event(s, v, st);
+    }
+    let mut bytes = [fill; SECTOR_SIZE];
+    volume::read::read(s, v, st, sector, &mut bytes);
+    at_rest(Live::On(s))
+}
+
+// A step settles where it says filling.
+fn step_event(s: State, v: &mut [u8], st: &mut [u8]) -> Moment
+    ensures { λ m. ⌜ worldOf m (now (v .exit)) (now (st .exit)) ≡ lists.stepWorld (now (v .entry)) (stepOf s (now (v .entry)) (now (st .entry))) ⌝ }
+{
+    let stepped = volume::step::step(s, v, st);
+    let next = stepped.state;
+    let answer = stepped.answer;
+    Moment {
+        live: Live::On(next),
+        settled: says_filling(answer),
+    }
+}
+
+fn says_filling(a: StepAnswer) -> bool
+    ensures { λ r. ⌜ r ≡ lists.stepSettles a ⌝ }
+{
+    match a {
+        StepAnswer::Stepped(_, says) => match says {
+            Says::Nothing => false,
+            Says::Acknowledged => false,
+            Says::Filling => true,
+        },
+        StepAnswer::Refused(_) => false,
+    }
+}

@@ -1,0 +1,32 @@
+use borrow.Author.Needs.{needs}
+use Prim.Native.Nat.{_-_, _≤_}
+use lib.ListN.{length}
+use mathlib.Core.Path.{_≡_}
+use Rattle.drill_cuts.proofs.drills.Statement.{statement}
+use Rattle.drill_cuts.proofs.drills.Tie as tie
+
+abbrev Inv-loop : tie.InvT-loop
+Inv-loop v₀ st₀ script₀ sections all₀ stores₀ t8 v st script all stores = (stores ≤ 187) × (length v ≡ length v₀) × (length st ≡ length st₀) × (length script ≡ length script₀)
+
+abbrev μ-loop : tie.MeasureT-loop
+μ-loop v₀ st₀ script₀ sections all₀ stores₀ t8 v st script all stores = 187 - stores
+
+pub drills-spec : {M : Type 1} → statement M
+drills-spec =
+    tie.close
+    (tie.spec
+    Inv-loop
+    μ-loop
+    (λ c κs. search needs)
+    (λ c. search needs)
+    (λ c κs. search needs)
+    (λ c. search needs)
+    (λ c. search needs)
+    (λ c. search needs)
+    (λ c. search needs)
+    (λ c κs. search needs)
+    (λ c κs. search needs)
+    (λ c. search needs)
+    (λ c. search needs)
+    (λ c. search needs)
+    (λ c. search needs))

@@ -1,0 +1,89 @@
+// Power cuts, drilled: two batches on a fresh volume, cut after every store of them, and again after every store of the recovery that follows; then
+// the volume recovers and every sector is read. Document 01, "The ledger of demand 3".
+//
+// A line for each number of sections. With one, the second batch goes over the first in the journal; with two, a recovery may replay both. A drill
+// has as many steps in its last recovery as document 01 counts stores, so it is done recovering only if that is the number.
+mod script;
+mod tally;
+
+use model::Layout;
+use tally::Tally;
+
+// The bytes of the larger volume, of a section, and of the longest script.
+const VOLUME: usize = 106496;
+
+const STAGING: usize = 45056;
+
+const SCRIPT: usize = 2048;
+
+fn main() {
+    let mut v = [0u8; VOLUME];
+    let mut st = [0u8; STAGING];
+    let mut script = [0u8; SCRIPT];
+    drills(&mut v, &mut st, &mut script, 1);
+    drills(&mut v, &mut st, &mut script, 2);
+}
+
+// r 0, T 32, N 16, P 16
+fn layout(sections: usize) -> Layout {
+    Layout {
+        reserved: 0,
+        shift: 4,
+        width: 32,
+        sections: sections,
+        provided: script::PROVIDED,
+    }
+}
+
+// Every drill on a volume with so many sections.
+fn drills(v: &mut [u8], st: &mut [u8], script: &mut [u8], sections: usize) {
+    let mut all = tally::none();
+    let mut stores = 0;
+    while stores <= script::STORES {
+        let next = recoveries(v, st, script, sections, stores, all);
+        all = next;
+        stores += 1;
+    }
+    tally::number(b"sections ", sections);
+    tally::print(all);
+}
+
+// The drills with the first cut after so many stores.
+fn recoveries(
+    v: &mut [u8],
+    st: &mut [u8],
+    script: &mut [u8],
+    sections: usize,
+    stores: usize,
+    before: Tally,
+) -> Tally {
+    let replayed = script::replayed(sections, stores);
+    let mut all = before;
+    let mut again = 0;
+    while again <= replayed {
+        let next = one_drill(v, st, script, sections, stores, again, all);
+        all = next;
+        again += 1;
+    }
+    all
+}
+
+// One drill, and what is read afterwards.
+fn one_drill(
+    v: &mut [u8],
+    st: &mut [u8],
+    script: &mut [u8],
+    sections: usize,
+    stores: usize,
+    again: usize,
+    before: Tally,
+) -> Tally {
+    let length = script::put(script, stores, again, script::replayed(sections, stores));
+    if script.len() < length {
+        return tally::unsettled(before);
+    }
+    octets::fill_at(v, 0, v.len(), 0);
+    let played = drill::play(layout(sections), &script[..length], v, st);
+    let last = played.last;
+    tally::add(before, last, v, st, stores)
+}

@@ -1,0 +1,2 @@
+-- Laws that more than one part cites.
+mod Numbers

@@ -1,0 +1,65 @@
+use Prim.Native.Nat.{_+_, _-_, _≤_}
+use mathlib.Core.Path.{refl, sym, ap, _∙_, _≡_}
+use native.Mathlib.Omega.{arith}
+use lib.ListN.{length}
+use borrow.Author.Needs.{needs}
+use Rattle.model.specs.Advance.{advanceFrom}
+use Rattle.model.specs.declared.Advanced.{Advanced}
+use Rattle.volume.specs.Results.{advanced}
+use Rattle.volume.proofs.Advancing.{made-none, made-more, made-all}
+use Rattle.volume.proofs.advance.steps.Statement.{statement}
+use Rattle.volume.proofs.advance.steps.Tie as tie
+
+abbrev Inv-loop : tie.InvT-loop
+Inv-loop v₀ st₀ n last₀ i₀ v st last i =
+    (i ≤ n) × (length v ≡ length v₀) × (length st ≡ length st₀) × (last .stores ≤ last₀ .stores + i) × (advanced last v st ≡ advanceFrom i (advanced last₀ v₀ st₀))
+
+abbrev μ-loop : tie.MeasureT-loop
+μ-loop v₀ st₀ n last₀ i₀ v st last i = n - i
+
+loop-holds : tie.Need-loop-holds Inv-loop μ-loop
+loop-holds c = (omega arith, refl, refl, omega arith, made-none _)
+
+one-more-requires : tie.Need-one-more-requires Inv-loop μ-loop
+one-more-requires c κs = omega (arith, c .before .before .before .before .before .before .before .before .before .before .before .pre, c .before .before .before .before .before .before .before .before .loop .inv .3)
+
+returns : tie.Need-returns Inv-loop μ-loop
+returns c =
+    made-all (c .before .before .before .before .before .before .before .before .before .before .before .loop .last) (c .before .before .one-more .result) (c .before .before .before .before .before .before .before .step .result) (c .before .before .one-more .ensures) (c .before .before .before .before .before .before .before .before .before .before .before .loop .v) (c .before .before .before .before .before .before .before .before .before .before .before .loop .st) _ _ (c .before .before .before .before .before .before .before .step .ensures)
+    (advanced (c .before .before .before .before .before .before .before .before .before .before .before .before .before .before .args .before) (c .before .before .before .before .before .before .before .before .before .before .before .before .before .before .args .v .now) (c .before .before .before .before .before .before .before .before .before .before .before .before .before .before .args .st .now)) (c .before .before .before .before .before .before .before .before .before .before .before .loop .i) (c .before .before .before .before .before .before .before .before .before .before .before .loop .inv .4) (c .before .before .before .before .before .before .before .before .before .before .before .before .before .before .args .n) (c .before .before .before .before .before .before .before .before .before .before .loop-test .taken) (omega (arith, c .before .stores-in .ensures .0, c .if1 .taken))
+
+loop-again : tie.Need-loop-again Inv-loop μ-loop
+loop-again c =
+    let stores : c .before .before .one-more .result .stores ≡ c .before .before .before .before .before .before .before .before .before .before .before .loop .last .stores + _ = ap (λ (a : Advanced). a .stores) (c .before .before .one-more .ensures) in (
+      omega arith,
+      search needs,
+      search needs,
+      omega (arith, stores, c .before .stores-in .ensures .0, c .before .stores-in .ensures .1, c .before .before .before .before .before .before .before .before .before .before .before .loop .inv .3),
+      made-more (c .before .before .before .before .before .before .before .before .before .before .before .loop .last) (c .before .before .one-more .result) (c .before .before .before .before .before .before .before .step .result) (c .before .before .one-more .ensures) (c .before .before .before .before .before .before .before .before .before .before .before .loop .v) (c .before .before .before .before .before .before .before .before .before .before .before .loop .st) _ _ (c .before .before .before .before .before .before .before .step .ensures)
+          (advanced (c .before .before .before .before .before .before .before .before .before .before .before .before .before .before .args .before) (c .before .before .before .before .before .before .before .before .before .before .before .before .before .before .args .v .now) (c .before .before .before .before .before .before .before .before .before .before .before .before .before .before .args .st .now)) (c .before .before .before .before .before .before .before .before .before .before .before .loop .i) (c .before .before .before .before .before .before .before .before .before .before .before .loop .inv .4),
+    )
+
+returns-2 : tie.Need-returns-2 Inv-loop μ-loop
+returns-2 c =
+    let e : c .before .loop .i ≡ c .before .before .before .before .args .n = omega arith in
+    rw e at (c .before .loop .inv .4)
+
+pub steps-spec : {M : Type 1} → statement M
+steps-spec =
+    tie.close
+    (tie.spec
+    Inv-loop
+    μ-loop
+    loop-holds
+    (λ c κs. search needs)
+    one-more-requires
+    (λ c κs. search needs)
+    (λ c. search needs)
+    (λ c. search needs)
+    returns
+    (λ c. search needs)
+    (λ c. search needs)
+    loop-again
+    (λ c. search needs)
+    (λ c. search needs)
+    returns-2)

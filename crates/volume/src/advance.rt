@@ -1,0 +1,173 @@
+// Advance: so many steps, one after the other; the model's specs/Advance.antt. A recovery scans the journal once for all of its steps, and goes from
+// each store straight to the next.
+use crate::state;
+use crate::step;
+use journal::Scan;
+use journal::journal as sections;
+use model::Advanced;
+use model::Done;
+use model::Phase;
+use model::Says;
+use model::State;
+use model::StepAnswer;
+use model::Stepped;
+ghost use mathlib.Core.Bool.{true, false, _&&_};
+ghost use mathlib.Core.List.{List};
+ghost use mathlib.Core.Path.{_≡_};
+ghost use Prim.Native.Nat.{ℕ, _+_, _-_, _*_, _^_, _≤_, _<_};
+ghost use lib.Dec.{leb};
+ghost use lib.ListN.{length};
+ghost use Rattle.model.specs.Layout.{needed};
+ghost use Rattle.model.specs.State.{volumeLoanOk, stateOk, stagingOk};
+ghost use Rattle.model.specs.Advance.{storesIn, advanceFrom, advanceOf};
+ghost use Rattle.model.specs.World.{stepAcknowledges};
+ghost use Rattle.journal.specs.Scan.{scanOf};
+ghost use Rattle.volume.specs.Results.{advanced, stepAdded};
+
+// Nothing was done, and nothing is said.
+fn no_step(s: State) -> Advanced
+    ensures { λ r. ⌜ r ≡ record { answer = StepAnswer.Stepped Done.Idle Says.Nothing; stores = 0; acknowledged = false; state = s } ⌝ }
+{
+    Advanced {
+        answer: StepAnswer::Stepped(Done::Idle, Says::Nothing),
+        stores: 0,
+        acknowledged: false,
+        state: s,
+    }
+}
+
+// How many sectors a step stored: one, or none.
+fn stores_in(a: StepAnswer) -> usize
+    ensures { λ r. ⌜ (r ≡ storesIn a) × (r ≤ 1) ⌝ }
+{
+    match a {
+        StepAnswer::Stepped(done, _) => match done {
+            Done::Idle => 0,
+            Done::Stored(_) => 1,
+        },
+        StepAnswer::Refused(_) => 0,
+    }
+}
+
+// Whether a step acknowledged the batch.
+fn acknowledges(a: StepAnswer) -> bool
+    ensures { λ r. ⌜ r ≡ stepAcknowledges a ⌝ }
+{
+    match a {
+        StepAnswer::Stepped(_, says) => match says {
+            Says::Nothing => false,
+            Says::Acknowledged => true,
+            Says::Filling => false,
+        },
+        StepAnswer::Refused(_) => false,
+    }
+}
+
+// What was done before, and one step more.
+fn one_more(last: Advanced, stepped: Stepped) -> Advanced
+    requires { ⌜ last .stores < 2 ^ 64 - 1 ⌝ }
+    ensures { λ r. ⌜ r ≡ stepAdded last stepped ⌝ }
+{
+    let answer = stepped.answer;
+    let count = stores_in(answer);
+    let said = acknowledges(answer);
+    let state = stepped.state;
+    Advanced {
+        answer: answer,
+        stores: last.stores + count,
+        acknowledged: said | last.acknowledged,
+        state: state,
+    }
+}
+
+// n steps more. Once a step stores nothing, every further one is the same, and is not made.
+fn steps(before: Advanced, v: &mut [u8], st: &mut [u8], n: usize) -> Advanced
+    requires { ⌜ before .stores + n < 2 ^ 64 ⌝ }
+    ensures { λ r. ⌜ advanced r (now (v .exit)) (now (st .exit)) ≡ advanceFrom n (advanced before (now (v .entry)) (now (st .entry))) ⌝ }
+{
+    let mut last = before;
+    let mut i = 0;
+    while i < n {
+        let stepped = step::step(last.state, v, st);
+        let answer = stepped.answer;
+        let next = one_more(last, stepped);
+        last = next;
+        if stores_in(answer) == 0 {
+            return last;
+        }
+        i += 1;
+    }
+    last
+}
+
+// The steps of a recovery on a journal that has been scanned, from its store k on: at most n, and none that is refused.
+fn replay_from(before: Advanced, v: &mut [u8], found: Scan, k: usize, n: usize) -> Advanced
+    requires { ⌜ (before .stores ≡ 0) × (stateOk (before .state) ≡ true) × (volumeLoanOk (now v) && leb (needed (before .state .layout) * 512) (length (now v)) ≡ true) × (before .state .phase ≡ Phase.Recovering k) × (found ≡ scanOf (before .state .layout) (now v)) × (k < found .stores .total) ⌝ }
+    ensures { λ r. ⌜ ((st : List ℕ) → stagingOk (before .state .layout) st ≡ true → advanced r (now (v .exit)) st ≡ advanceFrom (r .stores) (advanced before (now (v .entry)) st)) × (r .stores ≤ n) ⌝ }
+{
+    let s = before.state;
+    let g = s.layout;
+    let all = found.stores;
+    let total = all.total;
+    let mut last = before;
+    let mut x = sections::locate(found, v, g, k);
+    let mut i = 0;
+    while i < n {
+        let stepped = step::recover_step(last.state, v, k + i, total, x);
+        let answer = stepped.answer;
+        if stores_in(answer) == 0 {
+            return last;
+        }
+        let next = one_more(last, stepped);
+        last = next;
+        if k + i + 1 == total {
+            return last;
+        }
+        let y = sections::next_location(found, v, g, k + i, x);
+        x = y;
+        i += 1;
+    }
+    last
+}
+
+// The same on a journal that is yet to be scanned.
+fn recover(before: Advanced, v: &mut [u8], st: &[u8], k: usize, n: usize) -> Advanced
+    requires { ⌜ (before .stores ≡ 0) × (before .state .phase ≡ Phase.Recovering k) ⌝ }
+    ensures { λ r. ⌜ (advanced r (now (v .exit)) (now (st .entry)) ≡ advanceFrom (r .stores) (advanced before (now (v .entry)) (now (st .entry)))) × (r .stores ≤ n) ⌝ }
+{
+    let s = before.state;
+    if !state::state_ok(s) {
+        return before;
+    }
+    let g = s.layout;
+    if !state::layout_fits(g, v) {
+        return before;
+    }
+    if !state::staging_ok(g, st) {
+        return before;
+    }
+    let found = sections::scan(v, g);
+    let all = found.stores;
+    let total = all.total;
+    if total <= k {
+        return before;
+    }
+    replay_from(before, v, found, k, n)
+}
+
+// Makes n steps.
+pub fn advance(s: State, v: &mut [u8], st: &mut [u8], n: usize) -> Advanced
+    ensures { λ r. ⌜ advanced r (now (v .exit)) (now (st .exit)) ≡ advanceOf n s (now (v .entry)) (now (st .entry)) ⌝ }
+{
+    let before = no_step(s);
+    let p = s.phase;
+    match p {
+        Phase::Filling => steps(before, v, st, n),
+        Phase::Committing(_) => steps(before, v, st, n),
+        Phase::WritingBack(_, _) => steps(before, v, st, n),
+        Phase::Recovering(k) => {
+            let last = recover(before, v, st, k, n);
+            steps(last, v, st, n - last.stores)
+        }
+    }
+}
