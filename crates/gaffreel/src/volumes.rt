@@ -21,10 +21,11 @@ ghost use mathlib.Core.Path.{_≡_};
 ghost use mathlib.Core.List.{[], _∷_};
 ghost use Prim.Native.Nat.{_+_, _≤_};
 ghost use lib.ListN.{length};
+ghost use Rattle.octets.specs.Choice.{pick};
 ghost use Rattle.octets.specs.Parts.{patch};
 ghost use Rattle.model.specs.Refusal.{numberOf};
 ghost use Rattle.gaffreel.specs.Numbers.{numberBytes};
-ghost use Rattle.gaffreel.specs.Volumes.{stateSize, phaseNumbersOf, phaseOf, isPhase, layoutBytesOf, layoutOf, encodeOf, decodeOf, encodesState, answerSize, answerBytesOf, carriedOut, refusal, formatReply, writeReply, flushReply, readReply, openReply, queryReply, storedOf, sectorOf, saysOf, stepReply, formatCall, writeCall, flushCall, readCall, openedBytes, openCall, layoutSize, heldBytes, queryCall, stepCall};
+ghost use Rattle.gaffreel.specs.Volumes.{stateSize, phaseNumbersOf, phaseOf, isPhase, layoutBytesOf, layoutOf, encodeOf, decodeOf, encodesState, answerSize, answerBytesOf, carriedOut, refusal, formatReply, writeReply, flushReply, readReply, openReply, queryReply, storedOf, sectorOf, saysOf, stepReply, formatCall, writeCall, flushCall, readCall, openedBytes, openCall, layoutSize, heldBytes, queryCall, stepCall, advanceCall};
 
 // Lengths and indexes in bytes.
 const NUMBER_SIZE: usize = 8;
@@ -364,6 +365,16 @@ fn says(x: Says) -> u64
     }
 }
 
+// A fact as a number.
+fn flag(b: bool) -> u64
+    ensures { λ r. ⌜ r ≡ pick b 1 0 ⌝ }
+{
+    if b {
+        return 1;
+    }
+    0
+}
+
 // The reply to what a step answers, with two numbers more.
 fn step_reply(a: StepAnswer, fourth: u64, fifth: u64) -> Reply
     ensures { λ r. ⌜ r ≡ stepReply a fourth fifth ⌝ }
@@ -556,6 +567,34 @@ pub extern "C" fn gaffreel_volume_step(
     encode(next, state);
     let said = stepped.answer;
     put_reply(step_reply(said, 0, 0), answer)
+}
+
+// Makes so many steps, one after the other. Refused likewise; state, volume and staging are then as the steps before left them.
+#[no_mangle]
+pub extern "C" fn gaffreel_volume_advance(
+    state: &mut [u8],
+    v: &mut [u8],
+    staging: &mut [u8],
+    steps: usize,
+    answer: &mut [u8],
+) -> u32
+    ensures { λ r. ⌜ record { number = r; state = now (state .exit); volume = now (v .exit); staging = now (staging .exit); answer = now (answer .exit) } ≡ advanceCall (now (state .entry)) (now (v .entry)) (now (staging .entry)) steps (now (answer .entry)) ⌝ }
+{
+    if answer.len() != ANSWER_SIZE {
+        return WRONG_LENGTH;
+    }
+    if !encodes_state(state) {
+        return put_malformed(answer);
+    }
+    let advanced = volume::advance::advance(decode(state), v, staging, steps);
+    let next = advanced.state;
+    encode(next, state);
+    let said = advanced.answer;
+    let acknowledged = flag(advanced.acknowledged);
+    put_reply(
+        step_reply(said, advanced.stores as u64, acknowledged),
+        answer,
+    )
 }
 
 // Reads a sector's bytes into a buffer. Refused likewise.

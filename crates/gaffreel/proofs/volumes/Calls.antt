@@ -5,7 +5,9 @@ use mathlib.Core.List.{List}
 use mathlib.Core.Logic.{_≢_}
 use mathlib.Core.Path.{_≡_, ap, _∙_}
 use lib.ListN.{length}
+use Rattle.octets.specs.Choice.{pick}
 use borrow.Author.Tests.{eq-eqb, ne-eqb}
+use Rattle.model.specs.declared.Advanced.{Advanced}
 use Rattle.model.specs.declared.FormatAnswer.{FormatAnswer}
 use Rattle.model.specs.declared.Flushed.{Flushed}
 use Rattle.model.specs.declared.Layout.{Layout}
@@ -26,10 +28,11 @@ use Rattle.model.specs.Superblock.{superblockAt, layoutIn}
 use Rattle.model.specs.Open.{openOf}
 use Rattle.model.specs.Query.{queryOf}
 use Rattle.model.specs.Step.{StepResult, stepOf}
-use Rattle.volume.specs.Results.{written, Leaves}
+use Rattle.model.specs.Advance.{advanceOf}
+use Rattle.volume.specs.Results.{written, advanced, Leaves}
 use Rattle.gaffreel.specs.declared.volumes.Reply.{Reply}
 use Rattle.gaffreel.specs.Outcome.{wrongLength}
-use Rattle.gaffreel.specs.Volumes.{decodeOf, encodeOf, encodesState, answerSize, answerBytesOf, refusal, formatReply, writeReply, flushReply, readReply, openReply, queryReply, formatCall, writeCall, flushCall, readCall, stateSize, openedBytes, openCall, layoutSize, heldBytes, queryCall, stepReply, stepCall}
+use Rattle.gaffreel.specs.Volumes.{decodeOf, encodeOf, encodesState, answerSize, answerBytesOf, refusal, formatReply, writeReply, flushReply, readReply, openReply, queryReply, formatCall, writeCall, flushCall, readCall, stateSize, openedBytes, openCall, layoutSize, heldBytes, queryCall, stepReply, stepCall, advanceReply, advanceCall}
 
 -- the number answered and the answer's buffer hold the reply r
 pub record Replied (r : Reply) (n : ℕ) (a : List ℕ) : Type 0 where
@@ -174,3 +177,26 @@ module _ (s v st a : List ℕ) where
         let answer : o .answer ≡ x .answer = ap (λ (z : Stepped). z .answer) (made .returned) in
         let state : s' ≡ encodeOf (x .state) = es ∙ ap (λ (z : Stepped). encodeOf (z .state)) (made .returned) in
         rw (eq-eqb (length a) answerSize fits, h, ← answer, state, made .volume, made .staging, p .number, p .answer)
+
+-- ---- gaffreel_volume_advance
+
+module _ (s v st : List ℕ) (k : ℕ) (a : List ℕ) where
+  pub advance-wrong : length a ≢ answerSize → record { number = wrongLength; state = s; volume = v; staging = st; answer = a } ≡ advanceCall s v st k a
+  unfolding advanceCall
+  advance-wrong h = rw (ne-eqb (length a) answerSize h)
+
+  module _ (fits : length a ≡ answerSize) (a' : List ℕ) (n : ℕ) where
+    pub advance-malformed : encodesState s ≡ false → (n ≡ numberOf Malformed) × (a' ≡ answerBytesOf (refusal Malformed))
+        → record { number = n; state = s; volume = v; staging = st; answer = a' } ≡ advanceCall s v st k a
+    unfolding advanceCall
+    advance-malformed h p = rw (eq-eqb (length a) answerSize fits, h, p .0, p .1)
+
+    pub advance-made : encodesState s ≡ true → (d : State) → d ≡ decodeOf s → (o : Advanced) (f : ℕ) (s' v' st' : List ℕ)
+        → advanced o v' st' ≡ advanceOf k d v st → s' ≡ encodeOf (o .state) → f ≡ pick (o .acknowledged) 1 0
+        → Replied (stepReply (o .answer) (o .stores) f) n a'
+        → record { number = n; state = s'; volume = v'; staging = st'; answer = a' } ≡ advanceCall s v st k a
+    unfolding advanceCall
+    advance-made h d ed o f s' v' st' e es ef p =
+        let made : advanced o v' st' ≡ advanceOf k (decodeOf s) v st = rw ed at e in
+        let said : Replied (advanceReply (advanced o v' st')) n a' = rw ef at p in
+        rw (eq-eqb (length a) answerSize fits, h, ← made, es, said .number, said .answer)

@@ -1,4 +1,4 @@
--- A call that is refused leaves every buffer but the answer's as it was.
+-- A call that is refused leaves every buffer but the answer's as it was. (Of several steps, those before the refused one stay made.)
 use Prim.Native.Nat.{ℕ, _+_}
 use mathlib.Core.Bool.{Bool, true, false}
 use mathlib.Core.List.{List}
