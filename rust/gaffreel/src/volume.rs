@@ -17,13 +17,12 @@
 //!
 //! let mut staging = vec![0; volume::query(&bytes, 0)?.staging_length];
 //! let mut state = volume::open(&bytes, 0, &mut staging)?.state;
-//! volume::advance(&mut state, &mut bytes, &mut staging, u64::MAX).last?;
+//! volume::advance(&mut state, &mut bytes, &mut staging, u64::MAX)?;
 //!
 //! volume::write(&mut state, &mut staging, 5, &[1; SECTOR_LENGTH])?;
 //! volume::flush(&mut state)?;
-//! let committed = volume::advance(&mut state, &mut bytes, &mut staging, u64::MAX);
-//! committed.last?;
-//! assert!(committed.acknowledged);
+//! let advanced = volume::advance(&mut state, &mut bytes, &mut staging, u64::MAX)?;
+//! assert!(advanced.acknowledged);
 //!
 //! let mut sector = [0; SECTOR_LENGTH];
 //! volume::read(&state, &bytes, &staging, 5, &mut sector)?;
@@ -96,12 +95,11 @@ pub enum Said {
     Filling,
 }
 
-/// What so many steps give.
+/// What so many steps give, if all are taken.
 #[derive(Clone, Copy, Debug, PartialEq, Eq)]
-#[must_use = "the last step may have been refused"]
 pub struct Advanced {
-    /// The last step's answer; of no step, that nothing was stored or said.
-    pub last: Result<Stepped, Refusal>,
+    /// What the last step gives; of no step, that nothing was stored or said.
+    pub last: Stepped,
     /// How many stores were made.
     pub stores: u64,
     /// Whether a step acknowledged the batch.
@@ -188,16 +186,25 @@ pub fn step(state: &mut State, volume: &mut [u8], staging: &mut [u8]) -> Result<
 
 /// Takes so many steps, one after the other. From the first on that stores nothing, all give the same: so a number
 /// above the stores still to come finishes a recovery, or a commit and its write-back.
-pub fn advance(state: &mut State, volume: &mut [u8], staging: &mut [u8], steps: u64) -> Advanced {
+///
+/// After a refusal state, volume and staging are as the steps before the refused one left them. If the phase was
+/// committing and is no longer, the batch is acknowledged.
+pub fn advance(
+    state: &mut State,
+    volume: &mut [u8],
+    staging: &mut [u8],
+    steps: u64,
+) -> Result<Advanced, Refusal> {
     let reply = Reply::on(state, |state, answer| {
         ffi::volume_advance(state, volume, staging, size(steps), answer)
     });
+    let last = reply.stepped()?;
     let [.., stores, acknowledged] = reply.numbers;
-    Advanced {
-        last: reply.stepped(),
+    Ok(Advanced {
+        last,
         stores,
         acknowledged: acknowledged != 0,
-    }
+    })
 }
 
 /// Copies out the newest data of a sector: the batch's, else the volume's if its tag fits. `out` is one sector.

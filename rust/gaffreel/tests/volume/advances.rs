@@ -10,6 +10,9 @@ use reference::volume::{self, Half, Layout, Phase, State};
 use volumes::any::{any_layout, any_section, small_layout, with_journal};
 use volumes::{empty_staging, formatted, geometry};
 
+/// What a step says that acknowledges the batch.
+const ACKNOWLEDGED: u64 = 1;
+
 /// A step by the proved library: its number, and the first three of its answer.
 fn step(loans: &mut Loans) -> (u32, [u64; 3]) {
     let number = ffi::volume_step(
@@ -25,28 +28,29 @@ fn step(loans: &mut Loans) -> (u32, [u64; 3]) {
 /// Takes so many single steps, and advances by as many; all by the proved library.
 fn same_as_single_steps(loans: &Loans, steps: u64) {
     let mut stepped = loans.clone();
-    let mut last = (DONE, [0; 3]);
-    let mut stores = 0;
-    let mut acknowledged = 0;
+    let mut number = DONE;
+    let mut expected = [0; 5];
+    let (mut stores, mut acknowledged) = (0, 0);
     for _ in 0..steps {
-        last = step(&mut stepped);
-        if let (DONE, [stored, _, said]) = last {
-            stores += stored;
-            acknowledged |= u64::from(said == 1);
+        let (last, [first, second, third]) = step(&mut stepped);
+        number = last;
+        expected = [first, second, third, 0, 0];
+        if number == DONE {
+            stores += first;
+            acknowledged |= u64::from(third == ACKNOWLEDGED);
+            expected[3..].copy_from_slice(&[stores, acknowledged]);
         }
     }
     let mut advanced = loans.clone();
-    let number = ffi::volume_advance(
+    let answer = ffi::volume_advance(
         advanced.state.buffer(),
         advanced.volume.buffer(),
         advanced.staging.buffer(),
         steps as usize,
         advanced.answer.buffer(),
     );
-    let (expected, [first, second, third]) = last;
-    assert_eq!(number, expected);
-    let answer = advanced.answer();
-    assert_eq!(answer, [first, second, third, stores, acknowledged]);
+    assert_eq!(answer, number);
+    assert_eq!(advanced.answer(), expected);
     advanced.answer = stepped.answer.clone();
     advanced.assert_same(&stepped, "advance");
 }

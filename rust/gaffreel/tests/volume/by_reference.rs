@@ -49,8 +49,11 @@ pub fn volume_open(
     state: &mut [u8],
     answer: &mut [u8],
 ) -> u32 {
-    if state.len() != STATE_LENGTH || answer.len() != ANSWER_LENGTH {
+    if answer.len() != ANSWER_LENGTH {
         return WRONG_LENGTH;
+    }
+    if state.len() != STATE_LENGTH {
+        return reply(answer, Err(Refusal::LengthOrState));
     }
     let opened = volume::open(volume, reserved as u64, staging).map(|opened| {
         put_state(state, &opened.state);
@@ -98,26 +101,16 @@ pub fn volume_advance(
     steps: usize,
     answer: &mut [u8],
 ) -> u32 {
-    if answer.len() != ANSWER_LENGTH {
-        return WRONG_LENGTH;
-    }
-    if !holds_state(state) {
-        return reply(answer, Err(Refusal::LengthOrState));
-    }
-    if steps == 0 {
+    // No step, and so no test of the state.
+    if steps == 0 && answer.len() == ANSWER_LENGTH && holds_state(state) {
         return reply(answer, Ok([0; 5]));
     }
-    let mut held = match state_in(state) {
-        Ok(held) => held,
-        Err(refusal) => return reply(answer, Err(refusal)),
-    };
-    let advanced = volume::advance(&mut held, volume, staging, steps as u64);
-    put_state(state, &held);
-    // The last step's answer, and behind it what all steps did, also when the last was refused.
-    let number = reply(answer, advanced.last.map(step_numbers));
-    let all = [advanced.stores, u64::from(advanced.acknowledged)];
-    put_numbers(&mut answer[3 * 8..], &all);
-    number
+    on(state, answer, |state| {
+        let advanced = volume::advance(state, volume, staging, steps as u64);
+        let [stored, sector, said, ..] = step_numbers(advanced.last?);
+        let acknowledged = u64::from(advanced.acknowledged);
+        Ok([stored, sector, said, advanced.stores, acknowledged])
+    })
 }
 
 pub fn volume_read(

@@ -107,10 +107,12 @@ pub fn volume_advance(
     let advanced = on(state, |state| {
         volume::advance(state, volume, staging, steps as u64)
     })?;
-    let number = reply(answer, advanced.last.map(step_numbers));
-    let all = [advanced.stores, u64::from(advanced.acknowledged)];
-    put_numbers(&mut answer[3 * 8..], &all);
-    Some(number)
+    let numbers = advanced.map(|advanced| {
+        let [stored, sector, said, ..] = step_numbers(advanced.last);
+        let acknowledged = u64::from(advanced.acknowledged);
+        [stored, sector, said, advanced.stores, acknowledged]
+    });
+    Some(reply(answer, numbers))
 }
 
 pub fn volume_read(

@@ -50,7 +50,7 @@ impl World {
     }
 
     fn advance(&mut self, steps: u64) -> Advanced {
-        advance(&mut self.state, &mut self.volume, &mut self.staging, steps)
+        advance(&mut self.state, &mut self.volume, &mut self.staging, steps).unwrap()
     }
 
     /// The first byte of a sector.
@@ -128,10 +128,10 @@ fn the_same_sector_twice() {
     assert_eq!(world.read(5), 2);
     flush(&mut world.state).unwrap();
     let advanced = Advanced {
-        last: Ok(Stepped {
+        last: Stepped {
             stored: Some(96),
             said: Said::Filling,
-        }),
+        },
         stores: 92,
         acknowledged: true,
     };
@@ -139,10 +139,10 @@ fn the_same_sector_twice() {
     assert_eq!(world.read(5), 2);
     assert_eq!(flush(&mut world.state), Ok(Flushed::Acknowledged));
     let idle = Advanced {
-        last: Ok(Stepped {
+        last: Stepped {
             stored: None,
             said: Said::Filling,
-        }),
+        },
         stores: 0,
         acknowledged: false,
     };

@@ -1,7 +1,7 @@
 //! Each refusal of each call, by the safe wrapper: its number, its values and what it says.
 
 use gaffreel::volume::{advance, flush, format, open, query, read, step, write};
-use gaffreel::volume::{Advanced, Layout, Phase, State};
+use gaffreel::volume::{Layout, Phase, State};
 use gaffreel::Refusal;
 use volumes::{put_id, put_section, section, Entry};
 
@@ -176,13 +176,8 @@ fn of_step_and_advance() {
         assert!(loans == (at_hand, volume.clone(), staging.clone()));
         // The steps before the refused one stay.
         let mut loans = (first, volume.clone(), staging.clone());
-        let advanced = Advanced {
-            last: Err(refusal),
-            stores: 2,
-            acknowledged: false,
-        };
         let answer = advance(&mut loans.0, &mut loans.1, &mut loans.2, 9);
-        assert_eq!(answer, advanced);
+        assert_eq!(answer, Err(refusal));
         assert_eq!(loans.0, at_hand);
         let home = geometry().home(3).unwrap();
         assert_eq!(loans.1[home.data * 512..][..512], [1; 512]);
