@@ -1,6 +1,6 @@
 //! The C interface, with a slice for each pointer and length. A buffer may have any length, and the answer is the
 //! library's own: 0 is done, anything else the number of a refusal, after which every buffer is as it was, but for one
-//! that receives what the refusal also returns.
+//! that receives what the refusal also returns, and for what the steps of an advance changed before the refused one.
 //!
 //! All unsafe code of this crate stands here. It rests on two things: that the declarations below are those of the
 //! library, which nothing checks, and that its functions touch nothing outside the buffers lent to them, which is proved.
@@ -57,6 +57,96 @@ unsafe extern "C" {
         root_length: usize,
         level: *mut u8,
         level_length: usize,
+    ) -> u32;
+
+    fn gaffreel_volume_format(
+        volume: *mut u8,
+        volume_length: usize,
+        reserved: usize,
+        shift: usize,
+        width: usize,
+        sections: usize,
+        provided: usize,
+        answer: *mut u8,
+        answer_length: usize,
+    ) -> u32;
+
+    fn gaffreel_volume_query(
+        volume: *const u8,
+        volume_length: usize,
+        reserved: usize,
+        layout: *mut u8,
+        layout_length: usize,
+        answer: *mut u8,
+        answer_length: usize,
+    ) -> u32;
+
+    fn gaffreel_volume_open(
+        volume: *const u8,
+        volume_length: usize,
+        staging: *mut u8,
+        staging_length: usize,
+        reserved: usize,
+        state: *mut u8,
+        state_length: usize,
+        answer: *mut u8,
+        answer_length: usize,
+    ) -> u32;
+
+    fn gaffreel_volume_write(
+        state: *mut u8,
+        state_length: usize,
+        staging: *mut u8,
+        staging_length: usize,
+        sector: usize,
+        bytes: *const u8,
+        bytes_length: usize,
+        answer: *mut u8,
+        answer_length: usize,
+    ) -> u32;
+
+    fn gaffreel_volume_flush(
+        state: *mut u8,
+        state_length: usize,
+        answer: *mut u8,
+        answer_length: usize,
+    ) -> u32;
+
+    fn gaffreel_volume_step(
+        state: *mut u8,
+        state_length: usize,
+        volume: *mut u8,
+        volume_length: usize,
+        staging: *mut u8,
+        staging_length: usize,
+        answer: *mut u8,
+        answer_length: usize,
+    ) -> u32;
+
+    fn gaffreel_volume_advance(
+        state: *mut u8,
+        state_length: usize,
+        volume: *mut u8,
+        volume_length: usize,
+        staging: *mut u8,
+        staging_length: usize,
+        steps: usize,
+        answer: *mut u8,
+        answer_length: usize,
+    ) -> u32;
+
+    fn gaffreel_volume_read(
+        state: *const u8,
+        state_length: usize,
+        volume: *const u8,
+        volume_length: usize,
+        staging: *const u8,
+        staging_length: usize,
+        sector: usize,
+        bytes: *mut u8,
+        bytes_length: usize,
+        answer: *mut u8,
+        answer_length: usize,
     ) -> u32;
 }
 
@@ -152,6 +242,184 @@ pub fn tree_verify(
             root.len(),
             level.as_mut_ptr(),
             level.len(),
+        )
+    }
+}
+
+/// Makes a volume: the base-2 logarithm of the run length is `shift`, a tag's length `width`.
+pub fn volume_format(
+    volume: &mut [u8],
+    reserved: usize,
+    shift: usize,
+    width: usize,
+    sections: usize,
+    provided: usize,
+    answer: &mut [u8],
+) -> u32 {
+    // SAFETY: each pointer and length are those of one slice, borrowed for the call, and `volume` and `answer` overlap nothing.
+    unsafe {
+        gaffreel_volume_format(
+            volume.as_mut_ptr(),
+            volume.len(),
+            reserved,
+            shift,
+            width,
+            sections,
+            provided,
+            answer.as_mut_ptr(),
+            answer.len(),
+        )
+    }
+}
+
+/// The layout that a volume's superblock holds, and the length that staging must have.
+pub fn volume_query(volume: &[u8], reserved: usize, layout: &mut [u8], answer: &mut [u8]) -> u32 {
+    // SAFETY: each pointer and length are those of one slice, borrowed for the call, and `layout` and `answer` overlap nothing.
+    unsafe {
+        gaffreel_volume_query(
+            volume.as_ptr(),
+            volume.len(),
+            reserved,
+            layout.as_mut_ptr(),
+            layout.len(),
+            answer.as_mut_ptr(),
+            answer.len(),
+        )
+    }
+}
+
+/// Opens a volume.
+pub fn volume_open(
+    volume: &[u8],
+    staging: &mut [u8],
+    reserved: usize,
+    state: &mut [u8],
+    answer: &mut [u8],
+) -> u32 {
+    // SAFETY: each pointer and length are those of one slice, borrowed for the call, and `staging`, `state` and `answer`
+    // overlap nothing.
+    unsafe {
+        gaffreel_volume_open(
+            volume.as_ptr(),
+            volume.len(),
+            staging.as_mut_ptr(),
+            staging.len(),
+            reserved,
+            state.as_mut_ptr(),
+            state.len(),
+            answer.as_mut_ptr(),
+            answer.len(),
+        )
+    }
+}
+
+/// Adds a sector's bytes to the batch.
+pub fn volume_write(
+    state: &mut [u8],
+    staging: &mut [u8],
+    sector: usize,
+    bytes: &[u8],
+    answer: &mut [u8],
+) -> u32 {
+    // SAFETY: each pointer and length are those of one slice, borrowed for the call, and `state`, `staging` and `answer`
+    // overlap nothing.
+    unsafe {
+        gaffreel_volume_write(
+            state.as_mut_ptr(),
+            state.len(),
+            staging.as_mut_ptr(),
+            staging.len(),
+            sector,
+            bytes.as_ptr(),
+            bytes.len(),
+            answer.as_mut_ptr(),
+            answer.len(),
+        )
+    }
+}
+
+/// Begins to commit the batch.
+pub fn volume_flush(state: &mut [u8], answer: &mut [u8]) -> u32 {
+    // SAFETY: each pointer and length are those of one slice, borrowed for the call, and the two overlap nothing.
+    unsafe {
+        gaffreel_volume_flush(
+            state.as_mut_ptr(),
+            state.len(),
+            answer.as_mut_ptr(),
+            answer.len(),
+        )
+    }
+}
+
+/// Makes the store that comes next.
+pub fn volume_step(
+    state: &mut [u8],
+    volume: &mut [u8],
+    staging: &mut [u8],
+    answer: &mut [u8],
+) -> u32 {
+    // SAFETY: each pointer and length are those of one slice, borrowed for the call, and the four overlap nothing.
+    unsafe {
+        gaffreel_volume_step(
+            state.as_mut_ptr(),
+            state.len(),
+            volume.as_mut_ptr(),
+            volume.len(),
+            staging.as_mut_ptr(),
+            staging.len(),
+            answer.as_mut_ptr(),
+            answer.len(),
+        )
+    }
+}
+
+/// Takes so many steps, one after the other.
+pub fn volume_advance(
+    state: &mut [u8],
+    volume: &mut [u8],
+    staging: &mut [u8],
+    steps: usize,
+    answer: &mut [u8],
+) -> u32 {
+    // SAFETY: each pointer and length are those of one slice, borrowed for the call, and the four overlap nothing.
+    unsafe {
+        gaffreel_volume_advance(
+            state.as_mut_ptr(),
+            state.len(),
+            volume.as_mut_ptr(),
+            volume.len(),
+            staging.as_mut_ptr(),
+            staging.len(),
+            steps,
+            answer.as_mut_ptr(),
+            answer.len(),
+        )
+    }
+}
+
+/// Copies out the newest bytes of a sector.
+pub fn volume_read(
+    state: &[u8],
+    volume: &[u8],
+    staging: &[u8],
+    sector: usize,
+    bytes: &mut [u8],
+    answer: &mut [u8],
+) -> u32 {
+    // SAFETY: each pointer and length are those of one slice, borrowed for the call, and `bytes` and `answer` overlap nothing.
+    unsafe {
+        gaffreel_volume_read(
+            state.as_ptr(),
+            state.len(),
+            volume.as_ptr(),
+            volume.len(),
+            staging.as_ptr(),
+            staging.len(),
+            sector,
+            bytes.as_mut_ptr(),
+            bytes.len(),
+            answer.as_mut_ptr(),
+            answer.len(),
         )
     }
 }

@@ -4,6 +4,7 @@ pub mod ffi;
 mod refusal;
 mod sha256;
 pub mod tree;
+pub mod volume;
 
 pub use refusal::Refusal;
 pub use sha256::{sha256, Sha256, DIGEST_LENGTH, STATE_LENGTH};

@@ -1,7 +1,7 @@
 //! The proved SHA-256 against the reference: answers, digests and every byte of the states.
 
 use gaffreel::{ffi, sha256, Sha256, DIGEST_LENGTH, STATE_LENGTH};
-use random::{cases, Random};
+use random::{cases, Lent, Random};
 use reference::sha256::{digest, State, LIMIT};
 
 const DONE: u32 = 0;
@@ -217,11 +217,10 @@ fn wrong_lengths(random: &mut Random, first: usize, second: usize) -> (usize, us
 
 /// Makes a call that must be refused on a buffer that must stay as it was, the bytes around it included.
 fn refused(random: &mut Random, length: usize, call: impl FnOnce(&mut [u8]) -> u32) {
-    const MARGIN: usize = 128;
-    let mut memory = random.bytes(length + 2 * MARGIN);
-    let before = memory.clone();
-    assert_eq!(call(&mut memory[MARGIN..MARGIN + length]), REFUSED);
-    assert_eq!(memory, before);
+    let mut lent = Lent::new(random, length);
+    let before = lent.clone();
+    assert_eq!(call(lent.buffer()), REFUSED);
+    assert_eq!(lent, before);
 }
 
 #[test]

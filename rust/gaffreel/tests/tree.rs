@@ -3,33 +3,12 @@
 
 use gaffreel::tree::{self, BLOCK_LENGTH, LONGEST_SALT, MOST_BLOCKS};
 use gaffreel::{ffi, Refusal, DIGEST_LENGTH};
-use random::{cases, Random};
+use random::{cases, Lent, Random};
 use reference::tree as reference;
 
 const DONE: u32 = 0;
 const WRONG_LENGTH: u32 = 1;
 const LEVEL_LENGTH: usize = 4;
-
-/// A buffer with bytes around it that no call may touch.
-struct Lent {
-    memory: Vec<u8>,
-    length: usize,
-}
-
-impl Lent {
-    const MARGIN: usize = 64;
-
-    fn new(random: &mut Random, length: usize) -> Lent {
-        Lent {
-            memory: random.bytes(length + 2 * Lent::MARGIN),
-            length,
-        }
-    }
-
-    fn buffer(&mut self) -> &mut [u8] {
-        &mut self.memory[Lent::MARGIN..][..self.length]
-    }
-}
 
 /// Builds by both, and compares answer, tree and root digest.
 fn same_build(
@@ -42,13 +21,12 @@ fn same_build(
 ) {
     let mut tree = Lent::new(random, tree_length);
     let mut root = Lent::new(random, root_length);
-    let mut expected_tree = tree.memory.clone();
-    let mut expected_root = root.memory.clone();
+    let mut expected_tree = tree.clone();
+    let mut expected_root = root.clone();
     let expected_number = if root_length == DIGEST_LENGTH {
-        let tree = &mut expected_tree[Lent::MARGIN..][..tree_length];
-        match reference::build(count, salt, image, tree) {
+        match reference::build(count, salt, image, expected_tree.buffer()) {
             Ok(digest) => {
-                expected_root[Lent::MARGIN..][..root_length].copy_from_slice(&digest);
+                expected_root.buffer().copy_from_slice(&digest);
                 DONE
             }
             Err(refusal) => refusal.number(),
@@ -58,9 +36,9 @@ fn same_build(
     };
     let number = ffi::tree_build(count, salt, image, tree.buffer(), root.buffer());
     assert_eq!(number, expected_number);
-    assert_eq!(root.memory, expected_root);
+    assert_eq!(root, expected_root);
     // A tree that differs is too long to print.
-    assert!(tree.memory == expected_tree);
+    assert!(tree == expected_tree);
 }
 
 /// An image with its tree, and what is verified against it.
@@ -82,7 +60,7 @@ impl Case {
 
     fn same_verify_with_level_length(&self, random: &mut Random, level_length: usize) -> u32 {
         let mut level = Lent::new(random, level_length);
-        let mut expected_level = level.memory.clone();
+        let mut expected_level = level.clone();
         let expected = reference::verify(
             &self.block,
             self.index,
@@ -96,7 +74,8 @@ impl Case {
             Ok(()) => DONE,
             Err(refusal) => {
                 if let reference::Refusal::Mismatch(level) = refusal {
-                    expected_level[Lent::MARGIN..][..LEVEL_LENGTH]
+                    expected_level
+                        .buffer()
                         .copy_from_slice(&level.to_le_bytes());
                 }
                 refusal.number()
@@ -111,7 +90,7 @@ impl Case {
             &self.root,
             level.buffer(),
         );
-        assert_eq!((number, level.memory), (expected_number, expected_level));
+        assert_eq!((number, level), (expected_number, expected_level));
         number
     }
 }
@@ -384,7 +363,7 @@ fn wrapper_refusals() {
             (Err(refusal), Err(expected)) => {
                 assert_eq!(refusal.number(), expected.number());
                 let values = match expected {
-                    reference::Refusal::Mismatch(level) => vec![i64::from(level)],
+                    reference::Refusal::Mismatch(level) => vec![i128::from(level)],
                     _ => vec![],
                 };
                 assert_eq!(refusal.values(), values);

@@ -1,4 +1,4 @@
-//! Random test cases, the same in each run.
+//! Random test cases, the same in each run, and buffers to lend.
 
 use std::env;
 use std::ops::RangeInclusive;
@@ -51,6 +51,42 @@ impl Random {
         let mut bytes = vec![0; length];
         self.fill(&mut bytes);
         bytes
+    }
+}
+
+/// A buffer with random bytes around it that no call may touch.
+#[derive(Clone, Debug, PartialEq, Eq)]
+pub struct Lent {
+    memory: Vec<u8>,
+    length: usize,
+}
+
+impl Lent {
+    const MARGIN: usize = 64;
+
+    /// A buffer of random bytes.
+    pub fn new(random: &mut Random, length: usize) -> Lent {
+        Lent {
+            memory: random.bytes(length + 2 * Lent::MARGIN),
+            length,
+        }
+    }
+
+    /// A buffer of these bytes.
+    pub fn of(random: &mut Random, bytes: &[u8]) -> Lent {
+        let mut lent = Lent::new(random, bytes.len());
+        lent.buffer().copy_from_slice(bytes);
+        lent
+    }
+
+    /// The buffer.
+    pub fn buffer(&mut self) -> &mut [u8] {
+        &mut self.memory[Lent::MARGIN..][..self.length]
+    }
+
+    /// The buffer, to look at.
+    pub fn bytes(&self) -> &[u8] {
+        &self.memory[Lent::MARGIN..][..self.length]
     }
 }
 

@@ -3,22 +3,22 @@
 //! Each row is one function: it makes its input, so that every byte was touched before, has both sides timed by
 //! [`compare`] and checks that their results agree.
 
-use gaffreel::tree::{BLOCK_LENGTH, LONGEST_SALT};
-use std::hint::black_box;
-use std::time::{Duration, Instant};
+mod measure;
+mod volume;
 
-const ROUNDS: usize = 9;
-const MIB: usize = 1 << 20;
+use gaffreel::tree::{BLOCK_LENGTH, LONGEST_SALT};
+use measure::{compare, pattern, MIB};
+use std::hint::black_box;
 
 fn main() {
-    println!(
-        "{:<36} {:>10} {:>10} {:>10} {:>10} {:>7}",
-        "", "proved ms", "MiB/s", "Rust ms", "MiB/s", "ratio"
-    );
+    measure::heading();
     digest_of_one_piece();
     digests_of_sectors();
     tree_built();
     tree_verified();
+    volume::journal_recovered();
+    volume::sectors_checked();
+    volume::recovery_by_sections();
 }
 
 /// The digest of 32 MiB in one piece.
@@ -137,41 +137,4 @@ fn tree_verified() {
         },
     );
     assert_eq!((proved, rust), (count, count));
-}
-
-/// Runs both sides in turn, round by round, and prints the best time of each.
-fn compare(name: &str, bytes: usize, mut proved: impl FnMut(), mut rust: impl FnMut()) {
-    let mut best_proved = Duration::MAX;
-    let mut best_rust = Duration::MAX;
-    for _ in 0..ROUNDS {
-        best_proved = best_proved.min(time(&mut proved));
-        best_rust = best_rust.min(time(&mut rust));
-    }
-    println!(
-        "{name:<36} {:>10.1} {:>10.1} {:>10.1} {:>10.1} {:>7.2}",
-        milliseconds(best_proved),
-        mib_per_second(bytes, best_proved),
-        milliseconds(best_rust),
-        mib_per_second(bytes, best_rust),
-        best_proved.as_secs_f64() / best_rust.as_secs_f64(),
-    );
-}
-
-fn time(run: &mut impl FnMut()) -> Duration {
-    let start = Instant::now();
-    run();
-    start.elapsed()
-}
-
-fn milliseconds(time: Duration) -> f64 {
-    1000.0 * time.as_secs_f64()
-}
-
-fn mib_per_second(bytes: usize, time: Duration) -> f64 {
-    bytes as f64 / MIB as f64 / time.as_secs_f64()
-}
-
-/// Bytes that are not all alike.
-fn pattern(length: usize) -> Vec<u8> {
-    (0..length).map(|i| (i ^ (i >> 8)) as u8).collect()
 }

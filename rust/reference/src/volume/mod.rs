@@ -4,6 +4,7 @@
 //! be anything too. Each call tests what it was given in document 01's order and answers with the first rule that is
 //! met. After a refusal the state and all lent bytes are as they were.
 
+mod advance;
 mod check;
 mod flush;
 mod format;
@@ -12,6 +13,7 @@ mod layout;
 pub mod ledger;
 mod loan;
 mod open;
+mod query;
 mod read;
 mod recover;
 mod refusal;
@@ -22,12 +24,14 @@ mod superblock;
 mod tag;
 mod write;
 
+pub use advance::{advance, Advanced};
 pub use check::{check, Checked};
 pub use flush::{flush, Flushed};
 pub use format::format;
 pub use layout::{Geometry, Home, Layout};
 pub use loan::{Sector, SECTOR_LENGTH, VOLUME_LIMIT};
 pub use open::{open, Opened};
+pub use query::{query, Queried};
 pub use read::read;
 pub use recover::recover;
 pub use refusal::Refusal;

@@ -1,172 +1,13 @@
 //! Volumes, staging, states and arguments of any kind: no call panics, a refusal changes nothing, a state that is taken
 //! stays sound, and the calls that work on a whole volume agree with the single steps and reads.
 
-use crate::image::{self, empty_staging, formatted, put_id, put_section, Entry, UNUSED};
-use crate::{calls, histories::small_layout};
+use crate::calls;
 use random::{cases, Random};
-use reference::volume::{check, Geometry, Half, Layout, Phase, Refusal, Said, State};
-
-/// A small layout; in a few cases with a parameter of any size.
-fn any_layout(random: &mut Random) -> Layout {
-    let mut layout = small_layout(random);
-    if random.number().is_multiple_of(12) {
-        let any = any_number(random);
-        let field = match random.number() % 5 {
-            0 => &mut layout.reserved,
-            1 => &mut layout.log2_run,
-            2 => &mut layout.tag_size,
-            3 => &mut layout.sections,
-            _ => &mut layout.provided,
-        };
-        *field = any;
-    }
-    layout
-}
-
-/// Numbers of any size, and many at the ends.
-fn any_number(random: &mut Random) -> u64 {
-    match random.number() % 5 {
-        0 => random.number() % 8,
-        1 => random.number() % 200,
-        2 => u64::MAX - random.number() % 4,
-        3 => random.number() >> (random.number() % 64),
-        _ => random.number(),
-    }
-}
-
-fn any_entry(random: &mut Random, layout: &Layout) -> Entry {
-    let sector = match random.number() % 16 {
-        0 => layout.provided,
-        1 => UNUSED - 1,
-        2 => any_number(random),
-        3 | 4 => UNUSED,
-        _ => random.number() % layout.provided,
-    };
-    let mut data = [0; 512];
-    random.fill(&mut data);
-    Entry {
-        sector,
-        data,
-        fits: !random.number().is_multiple_of(12),
-    }
-}
-
-/// A section of entries of any kind; most are good.
-fn any_section(random: &mut Random, layout: &Layout, geometry: &Geometry, id: u64) -> Vec<u8> {
-    let count = random.pick(&[0, 1, 2, 3, geometry.entries]);
-    let good = random.number().is_multiple_of(2);
-    let entries: Vec<Entry> = (0..count)
-        .map(|_| match good {
-            true => Entry::new(random.number() % layout.provided, random.number() as u8),
-            false => any_entry(random, layout),
-        })
-        .collect();
-    image::section(geometry, id, &entries)
-}
-
-/// A formatted volume with sections that are whole or torn, in the right place or not, with low, high and equal ids.
-fn with_journal(random: &mut Random, layout: &Layout) -> Vec<u8> {
-    let geometry = image::geometry(layout);
-    let mut volume = formatted(layout, random.length(0..=1));
-    let start = random.pick(&[1, 1, 5, u64::MAX - 6]);
-    for id in start..start + random.number() % 6 {
-        let section = any_section(random, layout, &geometry, id);
-        let number = match random.number() % 6 {
-            0 => random.length(0..=geometry.sections - 1),
-            _ => geometry.section_of(id),
-        };
-        put_section(&mut volume, &geometry, number, &section);
-        if random.number().is_multiple_of(3) {
-            let sector = random.length(0..=geometry.section_sectors - 1);
-            let torn = random.pick(&[0, id - 1, id, id + 1, u64::MAX]);
-            put_id(&mut volume, &geometry, number, sector, torn);
-        }
-    }
-    volume
-}
-
-/// Changes a few bytes anywhere, or the length.
-fn spoil(random: &mut Random, bytes: &mut Vec<u8>) {
-    match random.number() % 4 {
-        0 => bytes.truncate(random.length(0..=bytes.len())),
-        1 => bytes.truncate(random.length(0..=bytes.len() / 512) * 512),
-        2 => bytes.extend(vec![0; random.pick(&[1, 511, 512, 1024])]),
-        _ => {}
-    }
-    for _ in 0..random.length(0..=6) {
-        if !bytes.is_empty() {
-            let place = random.length(0..=bytes.len() - 1);
-            bytes[place] = random.number() as u8;
-        }
-    }
-}
-
-fn any_volume(random: &mut Random, layout: &Layout) -> Vec<u8> {
-    let mut volume = match random.number() % 12 {
-        0 => {
-            let length = random.length(0..=300 * 512);
-            random.bytes(length)
-        }
-        1 => {
-            let sectors = random.length(0..=300);
-            random.bytes(sectors * 512)
-        }
-        2 => vec![0; random.length(0..=300) * 512],
-        _ if layout.in_range() && layout.provided < 100 && layout.sections < 10 => {
-            with_journal(random, layout)
-        }
-        _ => vec![0; 16 * 512],
-    };
-    if random.number().is_multiple_of(4) {
-        spoil(random, &mut volume);
-    }
-    // One byte of the superblock.
-    let place = layout.reserved.saturating_mul(512) as usize;
-    if random.number().is_multiple_of(8) && volume.len() > 4096 && place < volume.len() - 4096 {
-        let byte = random.length(0..=30);
-        volume[place + byte] = random.number() as u8;
-    }
-    volume
-}
-
-fn any_staging(random: &mut Random, layout: &Layout) -> Vec<u8> {
-    let Some(geometry) = layout.geometry() else {
-        return random.bytes(88 * 512);
-    };
-    let mut staging = match random.number() % 4 {
-        0 => random.bytes(geometry.staging_length()),
-        1 => empty_staging(&geometry),
-        _ => any_section(random, layout, &geometry, 0),
-    };
-    if random.number().is_multiple_of(12) {
-        spoil(random, &mut staging);
-    }
-    staging
-}
-
-fn any_state(random: &mut Random, layout: &Layout) -> State {
-    let place = any_number(random);
-    let half = random.pick(&[Half::Data, Half::Tag]);
-    let phase = match random.number() % 4 {
-        0 => Phase::Filling,
-        1 => Phase::Committing { sector: place },
-        2 => Phase::WritingBack { entry: place, half },
-        _ => Phase::Recovering { store: place },
-    };
-    let recovering = matches!(phase, Phase::Recovering { .. });
-    let count = match random.number() % 4 {
-        _ if recovering && !random.number().is_multiple_of(8) => 0,
-        0 => any_number(random),
-        1 => place.saturating_add(1),
-        _ => random.number() % 81,
-    };
-    State {
-        layout: *layout,
-        phase,
-        count,
-        id: any_number(random),
-    }
-}
+use reference::volume::{advance, check, query, Advanced, Layout, Phase, Refusal};
+use reference::volume::{Said, State, Stepped};
+use volumes::any::{any_layout, any_number, any_staging, any_state, any_volume};
+use volumes::any::{small_layout, with_journal};
+use volumes::{empty_staging, geometry};
 
 /// What the calls are given.
 struct Input {
@@ -263,7 +104,7 @@ fn recovery_at_once() {
     cases(300, |random| {
         let layout = small_layout(random);
         let volume = with_journal(random, &layout);
-        let mut staging = empty_staging(&image::geometry(&layout));
+        let mut staging = empty_staging(&geometry(&layout));
         let state = State {
             layout,
             phase: Phase::Recovering {
@@ -281,6 +122,67 @@ fn recovery_at_once() {
                 assert!(recovered == stepped);
             }
             Err(refused) => assert_eq!(Some(refused), refusal),
+        }
+    });
+}
+
+/// So many steps at once are as many single ones; those after one that stores nothing are all the same.
+#[test]
+fn advance_at_once() {
+    cases(1_000, |random| {
+        let Input {
+            mut volume,
+            mut staging,
+            mut state,
+            ..
+        } = any_input(random);
+        let mut stepped = (state, volume.clone(), staging.clone());
+        let count = random.pick(&[0, 1, 2, 5, 200, 400]);
+        let mut expected = Advanced {
+            last: Ok(Stepped {
+                stored: None,
+                said: Said::Nothing,
+            }),
+            stores: 0,
+            acknowledged: false,
+        };
+        for _ in 0..count {
+            expected.last = calls::step(&mut stepped.0, &mut stepped.1, &mut stepped.2);
+            if let Ok(stepped) = expected.last {
+                expected.stores += stepped.stored.iter().count() as u64;
+                expected.acknowledged |= stepped.said == Said::Acknowledged;
+            }
+        }
+        let answer = advance(&mut state, &mut volume, &mut staging, count);
+        assert_eq!(answer, expected);
+        assert!((state, volume, staging) == stepped);
+    });
+}
+
+/// A query is refused as open is before it looks at staging; else it gives the layout that open finds, and the length
+/// that open asks for.
+#[test]
+fn query_before_open() {
+    cases(2_000, |random| {
+        let layout = any_layout(random);
+        let volume = any_volume(random, &layout);
+        let other = any_number(random);
+        let reserved = random.pick(&[layout.reserved, layout.reserved, 0, other]);
+        match query(&volume, reserved) {
+            Err(refusal) => {
+                let mut staging = any_staging(random, &layout);
+                let answer = calls::open(&volume, reserved, &mut staging);
+                assert_eq!(answer, Err(refusal));
+            }
+            Ok(queried) => {
+                let length = queried.staging_length;
+                match calls::open(&volume, reserved, &mut vec![7; length]) {
+                    Ok(opened) => assert_eq!(opened.state.layout, queried.layout),
+                    Err(refusal) => assert_ne!(refusal, Refusal::LengthOrState),
+                }
+                let answer = calls::open(&volume, reserved, &mut vec![7; length + 1]);
+                assert_eq!(answer, Err(Refusal::LengthOrState));
+            }
         }
     });
 }

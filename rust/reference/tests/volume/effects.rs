@@ -1,9 +1,9 @@
 //! What the calls do where document 01 can be misread.
 
 use crate::calls;
-use crate::image::{self, empty_staging, formatted, geometry, put_id, Entry};
 use crate::setting::{filling, filling_with, in_phase, recovering, with_sections, LAYOUT, STAGING};
 use reference::volume::{Half, Phase};
+use volumes::{empty_staging, formatted, geometry, put_id, Entry};
 
 /// A torn section is not replayed, whatever its entries and ids are; a whole one without a used entry neither.
 #[test]
@@ -45,7 +45,7 @@ fn read_of_the_batch() {
     let entries = [Entry::new(5, 1), Entry::new(5, 2), Entry::new(5, 3)];
     let entries = entries.map(Entry::with_wrong_tag);
     let volume = formatted(&LAYOUT, 0);
-    let staging = image::section(&geometry(&LAYOUT), 9, &entries);
+    let staging = volumes::section(&geometry(&LAYOUT), 9, &entries);
     for phase in [
         Phase::Filling,
         Phase::Committing { sector: 87 },
@@ -72,10 +72,10 @@ fn write_changes_one_entry() {
     let geometry = geometry(&LAYOUT);
     for count in 0..80 {
         let mut entries = [Entry::new(5, 1).with_wrong_tag(); 80];
-        let mut staging = image::section(&geometry, 9, &entries);
+        let mut staging = volumes::section(&geometry, 9, &entries);
         let mut state = filling_with(count);
         calls::write(&mut state, &mut staging, 7, &[3; 512]).unwrap();
         entries[count as usize] = Entry::new(7, 3);
-        assert!(staging == image::section(&geometry, 9, &entries));
+        assert!(staging == volumes::section(&geometry, 9, &entries));
     }
 }

@@ -1,10 +1,10 @@
 //! Document 01's examples.
 
 use crate::calls;
-use crate::image::{formatted, geometry, section, Entry};
 use crate::world::World;
 use random::cases;
 use reference::volume::{check, Checked, Flushed, Home, Layout, Refusal, Said, VOLUME_LIMIT};
+use volumes::{formatted, geometry, section, Entry};
 
 /// r 0, T 32, N 16, S 1, P 16.
 const BENCH: Layout = Layout {

@@ -4,17 +4,7 @@ use crate::world::World;
 use random::{cases, Random};
 use reference::volume::ledger::Ledger;
 use reference::volume::{Layout, Phase};
-
-/// A small layout.
-pub fn small_layout(random: &mut Random) -> Layout {
-    Layout {
-        reserved: random.pick(&[0, 0, 1, 3]),
-        log2_run: random.pick(&[3, 3, 4, 5]),
-        tag_size: random.pick(&[8, 16, 32]),
-        sections: random.pick(&[1, 2, 3, 4]),
-        provided: random.length(1..=40) as u64,
-    }
-}
+use volumes::any::small_layout;
 
 /// Few sectors of a volume, so that the same one is often written twice.
 fn sector(random: &mut Random, layout: &Layout) -> u64 {

@@ -1,9 +1,9 @@
 //! The ledger's own rules, on lists of records made by hand.
 
-use crate::histories::small_layout;
 use random::cases;
 use reference::volume::ledger::{Event, Ledger, Record};
 use reference::volume::Layout;
+use volumes::any::small_layout;
 
 const LAYOUT: Layout = Layout {
     reserved: 0,

@@ -7,7 +7,6 @@ mod cuts;
 mod effects;
 mod examples;
 mod histories;
-mod image;
 mod ledger;
 mod refusals;
 mod setting;

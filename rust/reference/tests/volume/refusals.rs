@@ -2,10 +2,10 @@
 //! refusal changes nothing is checked by the calls.
 
 use crate::calls;
-use crate::image::{self, formatted, geometry, put_id, Entry, UNUSED};
 use crate::setting::{committing, filling, filling_with, in_phase, recovering, writing_back};
 use crate::setting::{with_sections, Sections, LAYOUT, SECTORS, STAGING};
 use reference::volume::{Half, Layout, Phase, Refusal, State, VOLUME_LIMIT};
+use volumes::{formatted, geometry, put_id, Entry, UNUSED};
 
 const LENGTH_OR_STATE: Refusal = Refusal::LengthOrState;
 
@@ -263,7 +263,7 @@ fn flush_order() {
 fn step_refuses_the_entry_at_hand() {
     let entries = [Entry::new(3, 1), Entry::new(10, 2), Entry::new(UNUSED, 3)];
     let mut volume = with_sections(&[(1, 2, &entries)]);
-    let mut staging = image::section(&geometry(&LAYOUT), 0, &entries);
+    let mut staging = volumes::section(&geometry(&LAYOUT), 0, &entries);
     for half in [Half::Data, Half::Tag] {
         for (entry, refused) in [(0, false), (1, true), (2, true)] {
             let mut state = in_phase(Phase::WritingBack { entry, half }, 3);
@@ -305,7 +305,7 @@ fn read_order() {
         (committing(0), 4, 512, tag(4)),
         (writing_back(0, 1), 4, 512, tag(4)),
     ] {
-        let staging = image::section(&geometry, 0, &[Entry::new(5, 1), Entry::new(4, 1)]);
+        let staging = volumes::section(&geometry, 0, &[Entry::new(5, 1), Entry::new(4, 1)]);
         let answer = calls::read(&state, &volume, &staging, sector, &mut vec![7; out]);
         assert_eq!(answer, Err(expected), "{state:?}");
     }

@@ -1,7 +1,7 @@
 //! One small volume, states on it and journals for it.
 
-use crate::image::{self, formatted, geometry, put_section, Entry};
 use reference::volume::{Half, Layout, Phase, State};
+use volumes::{formatted, geometry, put_section, Entry};
 
 pub const LAYOUT: Layout = Layout {
     reserved: 2,
@@ -59,7 +59,7 @@ pub fn with_sections(sections: Sections) -> Vec<u8> {
     let geometry = geometry(&LAYOUT);
     let mut volume = formatted(&LAYOUT, 0);
     for (number, id, entries) in sections {
-        let section = image::section(&geometry, *id, entries);
+        let section = volumes::section(&geometry, *id, entries);
         put_section(&mut volume, &geometry, *number, &section);
     }
     volume

@@ -1,10 +1,10 @@
 //! When a state and what is lent with it are sound. All else is refused with 1.
 
 use crate::calls;
-use crate::image::{self, empty_staging, formatted, geometry, Entry};
 use crate::setting::{committing, filling, filling_with, in_phase, writing_back};
 use crate::setting::{LAYOUT, SECTORS, STAGING};
 use reference::volume::{Half, Layout, Phase, Refusal, State, VOLUME_LIMIT};
+use volumes::{empty_staging, formatted, geometry, Entry};
 
 const LENGTH_OR_STATE: Refusal = Refusal::LengthOrState;
 
@@ -108,7 +108,7 @@ fn sound_states() {
     };
     for state in [filling_with(80), id_used_up, last_id, committing(0)] {
         let mut volume = formatted(&LAYOUT, 0);
-        let mut staging = image::section(&geometry(&LAYOUT), 0, &[Entry::new(9, 1); 80]);
+        let mut staging = volumes::section(&geometry(&LAYOUT), 0, &[Entry::new(9, 1); 80]);
         let mut stepped = state;
         assert!(calls::step(&mut stepped, &mut volume, &mut staging).is_ok());
         assert!(calls::flush(&mut stepped) != Err(LENGTH_OR_STATE));
@@ -141,7 +141,7 @@ fn layout_above_the_limit() {
 #[test]
 fn lengths_for_step_and_read() {
     let beyond = Entry::new(10, 1);
-    let staged = image::section(&geometry(&LAYOUT), 0, &[beyond]);
+    let staged = volumes::section(&geometry(&LAYOUT), 0, &[beyond]);
     let mut whole = formatted(&LAYOUT, 1);
     whole.push(0);
     let lengths = [

@@ -1,7 +1,7 @@
 //! A volume that is worked by calls and cuts, and the ledger beside it. Each call's answer is checked against the
 //! ledger; whenever an open reports no store to come or a step says filling, so is the whole volume.
 
-use crate::{calls, image};
+use crate::calls;
 use random::Random;
 use reference::volume::ledger::{Event, Ledger, Record};
 use reference::volume::{check, digest_of_sector, Flushed, Geometry, Layout, Phase, Refusal};
@@ -24,10 +24,10 @@ pub struct World {
 
 impl World {
     pub fn new(layout: Layout, behind: usize) -> World {
-        let volume = image::formatted(&layout, behind);
+        let volume = volumes::formatted(&layout, behind);
         World {
             layout,
-            geometry: image::geometry(&layout),
+            geometry: volumes::geometry(&layout),
             formatted: volume.clone(),
             volume,
             live: None,
@@ -59,7 +59,7 @@ impl World {
         let opened = calls::open(&self.volume, self.layout.reserved, &mut staging).unwrap();
         assert_eq!(opened.state.layout, self.layout);
         assert_eq!(opened.state.count, 0);
-        assert!(staging == image::empty_staging(&self.geometry));
+        assert!(staging == volumes::empty_staging(&self.geometry));
         self.record(Event::Open, false);
         self.live = Some((opened.state, staging));
         self.stores_to_come = opened.stores_to_come;

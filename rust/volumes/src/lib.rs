@@ -1,4 +1,6 @@
-//! Volumes made byte by byte.
+//! Volumes made byte by byte and at random, for tests and times.
+
+pub mod any;
 
 use reference::volume::{digest_of_sector, Geometry, Layout};
 
@@ -8,13 +10,16 @@ pub const UNUSED: u64 = u64::MAX;
 /// What a section's entry is to hold.
 #[derive(Clone, Copy)]
 pub struct Entry {
+    /// The logical sector.
     pub sector: u64,
+    /// The sector's bytes.
     pub data: [u8; 512],
     /// Whether its tag is to fit.
     pub fits: bool,
 }
 
 impl Entry {
+    /// An entry whose bytes are all alike.
     pub fn new(sector: u64, fill: u8) -> Entry {
         Entry {
             sector,
@@ -23,6 +28,7 @@ impl Entry {
         }
     }
 
+    /// The same with a tag that does not fit.
     pub fn with_wrong_tag(self) -> Entry {
         Entry {
             fits: false,
@@ -31,6 +37,7 @@ impl Entry {
     }
 }
 
+/// What follows from a layout that is in range.
 pub fn geometry(layout: &Layout) -> Geometry {
     layout.geometry().expect("the layout is in range")
 }

@@ -1,0 +1,287 @@
+//! A tagged volume with a journal.
+//!
+//! A volume, a staging section and a sector are lent as bytes. Each call tests what it was given, and after a refusal the
+//! state and all lent bytes are as they were; only [`advance`] keeps the steps before the refused one.
+//!
+//! A caller that has only a volume asks [`query`] how long staging must be, then calls [`open`]; [`step`] or [`advance`]
+//! finish the recovery. While the volume is filling, [`write()`] takes sectors into a batch; [`flush`] begins to commit it,
+//! and steps store it, first in the journal, then in its place.
+//!
+//! ```
+//! use gaffreel::volume::{self, Layout, SECTOR_LENGTH};
+//!
+//! # fn main() -> Result<(), gaffreel::Refusal> {
+//! let layout = Layout { reserved: 0, log2_run: 4, tag_size: 32, sections: 1, provided: 16 };
+//! let mut bytes = vec![0; 120 * SECTOR_LENGTH];
+//! volume::format(&mut bytes, &layout)?;
+//!
+//! let mut staging = vec![0; volume::query(&bytes, 0)?.staging_length];
+//! let mut state = volume::open(&bytes, 0, &mut staging)?.state;
+//! volume::advance(&mut state, &mut bytes, &mut staging, u64::MAX)?;
+//!
+//! volume::write(&mut state, &mut staging, 5, &[1; SECTOR_LENGTH])?;
+//! volume::flush(&mut state)?;
+//! let advanced = volume::advance(&mut state, &mut bytes, &mut staging, u64::MAX)?;
+//! assert!(advanced.acknowledged);
+//!
+//! let mut sector = [0; SECTOR_LENGTH];
+//! volume::read(&state, &bytes, &staging, 5, &mut sector)?;
+//! assert_eq!(sector, [1; SECTOR_LENGTH]);
+//! # Ok(())
+//! # }
+//! ```
+
+mod state;
+
+pub use state::{Layout, Phase, State, LAYOUT_LENGTH, STATE_LENGTH};
+
+use crate::ffi;
+use crate::refusal::Refusal;
+use state::numbers;
+
+/// A sector's length in bytes.
+pub const SECTOR_LENGTH: usize = 512;
+
+/// The most sectors of a volume.
+pub const MOST_SECTORS: usize = 65_536;
+
+/// An answer's length in bytes.
+pub const ANSWER_LENGTH: usize = 40;
+
+/// What a query that is taken gives.
+#[derive(Clone, Copy, Debug, PartialEq, Eq)]
+pub struct Queried {
+    /// The volume's parameters.
+    pub layout: Layout,
+    /// The length in bytes that staging must have.
+    pub staging_length: usize,
+}
+
+/// What an open that is taken gives.
+#[derive(Clone, Copy, Debug, PartialEq, Eq)]
+pub struct Opened {
+    /// The state, recovering or filling.
+    pub state: State,
+    /// How many stores the recovery will make.
+    pub stores_to_come: u64,
+}
+
+/// What a flush that is taken gives.
+#[derive(Clone, Copy, Debug, PartialEq, Eq)]
+pub enum Flushed {
+    /// The batch was empty, and is acknowledged at once.
+    Acknowledged,
+    /// The batch is being committed; a step acknowledges it.
+    Committing,
+}
+
+/// What a step that is taken gives.
+#[derive(Clone, Copy, Debug, PartialEq, Eq)]
+pub struct Stepped {
+    /// The volume's sector that was stored; none when filling.
+    pub stored: Option<u64>,
+    /// What the step says of the volume.
+    pub said: Said,
+}
+
+/// What a step says of the volume.
+#[derive(Clone, Copy, Debug, PartialEq, Eq)]
+pub enum Said {
+    /// Nothing.
+    Nothing,
+    /// The batch is acknowledged: it survives a cut.
+    Acknowledged,
+    /// The volume is filling.
+    Filling,
+}
+
+/// What so many steps give, if all are taken.
+#[derive(Clone, Copy, Debug, PartialEq, Eq)]
+pub struct Advanced {
+    /// What the last step gives; of no step, that nothing was stored or said.
+    pub last: Stepped,
+    /// How many stores were made.
+    pub stores: u64,
+    /// Whether a step acknowledged the batch.
+    pub acknowledged: bool,
+}
+
+/// Makes a volume whose superblock is still zero: every sector provided is zero and has its tag. The reserved sectors
+/// and those behind the last run stay as they are.
+///
+/// In range are 0 to 64 reserved sectors, a logarithm of 3 to 15, a tag size of 8, 16 or 32, 1 to 64 sections and 1 to
+/// 65,536 sectors provided; in all a volume has at most [`MOST_SECTORS`].
+pub fn format(volume: &mut [u8], layout: &Layout) -> Result<(), Refusal> {
+    let reply = Reply::of(|answer| {
+        ffi::volume_format(
+            volume,
+            size(layout.reserved),
+            size(layout.log2_run),
+            size(layout.tag_size),
+            size(layout.sections),
+            size(layout.provided),
+            answer,
+        )
+    });
+    match reply.number {
+        0 => Ok(()),
+        refused => Err(Refusal::of_format(refused, reply.values())),
+    }
+}
+
+/// The parameters of a volume that was formatted with `reserved` reserved sectors, 0 to 64, and the length that staging
+/// must have. The journal is not looked at.
+pub fn query(volume: &[u8], reserved: u64) -> Result<Queried, Refusal> {
+    let mut layout = [0; LAYOUT_LENGTH];
+    let reply = Reply::of(|answer| ffi::volume_query(volume, size(reserved), &mut layout, answer));
+    let [staging_length, ..] = reply.done()?;
+    Ok(Queried {
+        layout: Layout::from_bytes(layout),
+        staging_length: size(staging_length),
+    })
+}
+
+/// Opens a volume that was formatted with `reserved` reserved sectors, 0 to 64, and makes staging an empty section.
+pub fn open(volume: &[u8], reserved: u64, staging: &mut [u8]) -> Result<Opened, Refusal> {
+    let mut state = [0; STATE_LENGTH];
+    let reply =
+        Reply::of(|answer| ffi::volume_open(volume, staging, size(reserved), &mut state, answer));
+    let [stores_to_come, ..] = reply.done()?;
+    Ok(Opened {
+        state: left(state),
+        stores_to_come,
+    })
+}
+
+/// Adds an entry to the batch in staging, also when the sector is already there. `bytes` is one sector.
+pub fn write(
+    state: &mut State,
+    staging: &mut [u8],
+    sector: u64,
+    bytes: &[u8],
+) -> Result<(), Refusal> {
+    let reply = Reply::on(state, |state, answer| {
+        ffi::volume_write(state, staging, size(sector), bytes, answer)
+    });
+    reply.done()?;
+    Ok(())
+}
+
+/// Begins to commit the batch.
+pub fn flush(state: &mut State) -> Result<Flushed, Refusal> {
+    let [acknowledged, ..] = Reply::on(state, ffi::volume_flush).done()?;
+    Ok(match acknowledged {
+        0 => Flushed::Committing,
+        _ => Flushed::Acknowledged,
+    })
+}
+
+/// Makes the store that comes next, or none when filling.
+pub fn step(state: &mut State, volume: &mut [u8], staging: &mut [u8]) -> Result<Stepped, Refusal> {
+    let reply = Reply::on(state, |state, answer| {
+        ffi::volume_step(state, volume, staging, answer)
+    });
+    reply.stepped()
+}
+
+/// Takes so many steps, one after the other. From the first on that stores nothing, all give the same: so a number
+/// above the stores still to come finishes a recovery, or a commit and its write-back.
+///
+/// After a refusal state, volume and staging are as the steps before the refused one left them. If the phase was
+/// committing and is no longer, the batch is acknowledged.
+pub fn advance(
+    state: &mut State,
+    volume: &mut [u8],
+    staging: &mut [u8],
+    steps: u64,
+) -> Result<Advanced, Refusal> {
+    let reply = Reply::on(state, |state, answer| {
+        ffi::volume_advance(state, volume, staging, size(steps), answer)
+    });
+    let last = reply.stepped()?;
+    let [.., stores, acknowledged] = reply.numbers;
+    Ok(Advanced {
+        last,
+        stores,
+        acknowledged: acknowledged != 0,
+    })
+}
+
+/// Copies out the newest data of a sector: the batch's, else the volume's if its tag fits. `out` is one sector.
+pub fn read(
+    state: &State,
+    volume: &[u8],
+    staging: &[u8],
+    sector: u64,
+    out: &mut [u8],
+) -> Result<(), Refusal> {
+    let state = state.to_bytes();
+    let reply =
+        Reply::of(|answer| ffi::volume_read(&state, volume, staging, size(sector), out, answer));
+    reply.done()?;
+    Ok(())
+}
+
+/// What a call of the C interface says: the number that it answers, and the numbers in the answer's buffer.
+struct Reply {
+    number: u32,
+    numbers: [u64; 5],
+}
+
+impl Reply {
+    /// Has a call write to an answer's buffer.
+    fn of(call: impl FnOnce(&mut [u8]) -> u32) -> Reply {
+        let mut answer = [0; ANSWER_LENGTH];
+        let number = call(&mut answer);
+        Reply {
+            number,
+            numbers: numbers(&answer),
+        }
+    }
+
+    /// The same with a call that writes to the state's buffer too.
+    fn on(state: &mut State, call: impl FnOnce(&mut [u8], &mut [u8]) -> u32) -> Reply {
+        let mut bytes = state.to_bytes();
+        let reply = Reply::of(|answer| call(&mut bytes, answer));
+        *state = left(bytes);
+        reply
+    }
+
+    /// The numbers of a call that was carried out.
+    fn done(&self) -> Result<[u64; 5], Refusal> {
+        match self.number {
+            0 => Ok(self.numbers),
+            refused => Err(Refusal::of_volume(refused, self.values())),
+        }
+    }
+
+    /// What a refusal also returned: the first number says how many values follow.
+    fn values(&self) -> &[u64] {
+        let [count, values @ ..] = &self.numbers;
+        &values[..size(*count)]
+    }
+
+    /// What a step says.
+    fn stepped(&self) -> Result<Stepped, Refusal> {
+        let [stored, sector, said, ..] = self.done()?;
+        Ok(Stepped {
+            stored: (stored != 0).then_some(sector),
+            said: match said {
+                0 => Said::Nothing,
+                1 => Said::Acknowledged,
+                2 => Said::Filling,
+                other => unreachable!("the C interface has no step that says {other}"),
+            },
+        })
+    }
+}
+
+/// The state that a call left.
+fn left(bytes: [u8; STATE_LENGTH]) -> State {
+    State::from_bytes(bytes).expect("a call leaves a state")
+}
+
+/// A number as the C interface takes it. The library is for x86-64, so nothing is cut.
+fn size(number: u64) -> usize {
+    number as usize
+}

@@ -1,0 +1,176 @@
+//! So many steps at once against as many single ones, and a whole recovery against the reference's.
+
+use crate::any_input::any_loans;
+use crate::by_reference::put_state;
+use crate::loans::{Loans, DONE};
+use gaffreel::ffi;
+use gaffreel::volume::STATE_LENGTH;
+use random::{cases, Random};
+use reference::volume::{self, Half, Layout, Phase, State};
+use volumes::any::{any_layout, any_section, small_layout, with_journal};
+use volumes::{empty_staging, formatted, geometry};
+
+/// What a step says that acknowledges the batch.
+const ACKNOWLEDGED: u64 = 1;
+
+/// A step by the proved library: its number, and the first three of its answer.
+fn step(loans: &mut Loans) -> (u32, [u64; 3]) {
+    let number = ffi::volume_step(
+        loans.state.buffer(),
+        loans.volume.buffer(),
+        loans.staging.buffer(),
+        loans.answer.buffer(),
+    );
+    let answer = loans.answer();
+    (number, [answer[0], answer[1], answer[2]])
+}
+
+/// Takes so many single steps, and advances by as many; all by the proved library.
+fn same_as_single_steps(loans: &Loans, steps: u64) {
+    let mut stepped = loans.clone();
+    let mut number = DONE;
+    let mut expected = [0; 5];
+    let (mut stores, mut acknowledged) = (0, 0);
+    for _ in 0..steps {
+        let (last, [first, second, third]) = step(&mut stepped);
+        number = last;
+        expected = [first, second, third, 0, 0];
+        if number == DONE {
+            stores += first;
+            acknowledged |= u64::from(third == ACKNOWLEDGED);
+            expected[3..].copy_from_slice(&[stores, acknowledged]);
+        }
+    }
+    let mut advanced = loans.clone();
+    let answer = ffi::volume_advance(
+        advanced.state.buffer(),
+        advanced.volume.buffer(),
+        advanced.staging.buffer(),
+        steps as usize,
+        advanced.answer.buffer(),
+    );
+    assert_eq!(answer, number);
+    assert_eq!(advanced.answer(), expected);
+    advanced.answer = stepped.answer.clone();
+    advanced.assert_same(&stepped, "advance");
+}
+
+/// A state that is sound on a volume, or nearly.
+fn any_place(random: &mut Random, state: &mut State, section_sectors: u64) {
+    state.count = random.number() % 4;
+    state.phase = match random.number() % 4 {
+        0 => Phase::Filling,
+        1 => Phase::Committing {
+            sector: section_sectors - random.number() % 6,
+        },
+        2 => Phase::WritingBack {
+            entry: random.number() % 4,
+            half: random.pick(&[Half::Data, Half::Tag]),
+        },
+        _ => {
+            state.count = 0;
+            Phase::Recovering {
+                store: random.number() % 6,
+            }
+        }
+    };
+}
+
+#[test]
+fn advance_is_single_steps() {
+    cases(2_000, |random| {
+        let layout = small_layout(random);
+        let geometry = geometry(&layout);
+        let volume = with_journal(random, &layout);
+        let staging = any_section(random, &layout, &geometry, 0);
+        let mut loans = Loans::new(random, &volume, &staging);
+        let mut state = State {
+            layout,
+            phase: Phase::Filling,
+            count: 0,
+            id: random.pick(&[1, 7, u64::MAX - 1, u64::MAX]),
+        };
+        any_place(random, &mut state, geometry.section_sectors as u64);
+        loans.put_state(&state);
+        let steps = match random.number() % 3 {
+            0 => random.number() % 3,
+            1 => random.number() % 16,
+            _ => random.number() % 400,
+        };
+        same_as_single_steps(&loans, steps);
+        loans.advance(steps);
+    });
+}
+
+#[test]
+fn advance_of_any_input() {
+    cases(1_000, |random| {
+        let layout = any_layout(random);
+        let loans = any_loans(random, &layout);
+        same_as_single_steps(&loans, random.number() % 8);
+    });
+}
+
+/// A whole batch: every number of steps up to its end and beyond.
+#[test]
+fn each_number_of_steps() {
+    cases(1, |random| {
+        let layout = Layout {
+            reserved: 0,
+            log2_run: 3,
+            tag_size: 32,
+            sections: 2,
+            provided: 9,
+        };
+        let geometry = geometry(&layout);
+        let staging = empty_staging(&geometry);
+        let mut loans = Loans::new(random, &formatted(&layout, 0), &staging);
+        assert_eq!(loans.open(0), DONE);
+        for sector in [8, 3] {
+            assert_eq!(loans.write(sector), DONE);
+        }
+        assert_eq!(loans.flush(), DONE);
+        // 88 stores commit the batch, 4 write it back.
+        for steps in 0..=94 {
+            same_as_single_steps(&loans, steps);
+            let mut advanced = loans.clone();
+            assert_eq!(advanced.advance(steps), DONE);
+            let stores = steps.min(92);
+            let answer = advanced.answer();
+            assert_eq!(answer[3..], [stores, u64::from(steps >= 88)]);
+        }
+    });
+}
+
+/// Where open is taken, an advance beyond the recovery's end leaves what the reference's recovery at once leaves.
+#[test]
+fn whole_recoveries() {
+    cases(600, |random| {
+        let layout = small_layout(random);
+        let staging = empty_staging(&geometry(&layout));
+        let volume = with_journal(random, &layout);
+        let mut expected = volume.clone();
+        let Ok(opened) = volume::open(&volume, layout.reserved, &mut staging.clone()) else {
+            return;
+        };
+        let mut state = opened.state;
+        let stores = volume::recover(&mut state, &mut expected, &staging);
+        assert_eq!(stores, Ok(opened.stores_to_come));
+
+        let mut loans = Loans::new(random, &volume, &staging);
+        assert_eq!(loans.open(layout.reserved), DONE);
+        let number = ffi::volume_advance(
+            loans.state.buffer(),
+            loans.volume.buffer(),
+            loans.staging.buffer(),
+            usize::MAX,
+            loans.answer.buffer(),
+        );
+        assert_eq!(number, DONE);
+        assert_eq!(loans.answer(), [0, 0, 2, opened.stores_to_come, 0]);
+        assert!(loans.volume.bytes() == expected);
+        let mut expected_state = [0; STATE_LENGTH];
+        put_state(&mut expected_state, &state);
+        assert_eq!(loans.state.bytes(), expected_state);
+    });
+}

@@ -1,0 +1,176 @@
+//! Buffers of wrong lengths, and state buffers of any bytes.
+
+use crate::by_reference::{holds_state, numbers_in, put_numbers};
+use crate::loans::Loans;
+use gaffreel::volume::{State, MOST_SECTORS, STATE_LENGTH};
+use random::{cases, Lent, Random};
+use reference::volume::{self, Half, Layout, Phase};
+use volumes::any::any_number;
+use volumes::{empty_staging, formatted, geometry, put_section, section, Entry};
+
+const LAYOUT: Layout = Layout {
+    reserved: 1,
+    log2_run: 3,
+    tag_size: 32,
+    sections: 1,
+    provided: 5,
+};
+
+/// A sound state in any phase, with a journal and staging for it.
+fn sound(random: &mut Random) -> Loans {
+    let geometry = geometry(&LAYOUT);
+    let entries = [Entry::new(3, 7), Entry::new(1, 8)];
+    let mut volume = formatted(&LAYOUT, random.length(0..=1));
+    put_section(&mut volume, &geometry, 0, &section(&geometry, 1, &entries));
+    let mut loans = Loans::new(random, &volume, &section(&geometry, 0, &entries));
+    let (phase, count) = match random.number() % 4 {
+        0 => (Phase::Filling, random.number() % 81),
+        1 => (Phase::Committing { sector: 3 }, 2),
+        2 => {
+            let half = random.pick(&[Half::Data, Half::Tag]);
+            (Phase::WritingBack { entry: 1, half }, 2)
+        }
+        _ => (Phase::Recovering { store: 3 }, 0),
+    };
+    loans.put_state(&volume::State {
+        layout: LAYOUT,
+        phase,
+        count,
+        id: 2,
+    });
+    loans
+}
+
+/// Each call, each on loans of its own.
+fn each_call(random: &mut Random, loans: &Loans) {
+    let sector = random.number() % 6;
+    loans.clone().query(LAYOUT.reserved);
+    loans.clone().open(LAYOUT.reserved);
+    loans.clone().write(sector);
+    loans.clone().flush();
+    loans.clone().step();
+    loans.clone().advance(random.pick(&[0, 1, 5, u64::MAX]));
+    loans.clone().read(sector);
+    let mut loans = loans.clone();
+    if loans.volume.bytes().len() >= 9 * 512 && random.number().is_multiple_of(2) {
+        // Else the superblock is not zero.
+        loans.volume.buffer()[512..9 * 512].fill(0);
+    }
+    loans.format(&LAYOUT);
+}
+
+/// A random length other than `right`, often the one above or below.
+fn wrong_length(random: &mut Random, right: usize) -> usize {
+    match random.number() % 5 {
+        0 if right > 0 => right - 1,
+        1 => right + 1,
+        2 if right > 0 => random.length(0..=right - 1),
+        3 if right > 0 => random.pick(&[0, 2 * right]),
+        _ => random.length(right + 1..=right + 600),
+    }
+}
+
+/// The same bytes as far as they go, and any behind them.
+fn resize(random: &mut Random, buffer: &mut Lent) {
+    let length = wrong_length(random, buffer.bytes().len());
+    let mut resized = random.bytes(length);
+    for (byte, kept) in resized.iter_mut().zip(buffer.bytes()) {
+        *byte = *kept;
+    }
+    *buffer = Lent::of(random, &resized);
+}
+
+#[test]
+fn wrong_lengths() {
+    cases(2_000, |random| {
+        let mut loans = sound(random);
+        for _ in 0..random.length(1..=2) {
+            let buffer = match random.number() % 8 {
+                0 | 1 => &mut loans.state,
+                2 | 3 => &mut loans.answer,
+                4 => &mut loans.layout,
+                5 => &mut loans.volume,
+                6 => &mut loans.staging,
+                _ => &mut loans.bytes,
+            };
+            resize(random, buffer);
+        }
+        each_call(random, &loans);
+    });
+}
+
+/// Replaces numbers of a state that is sound.
+fn spoil_state(random: &mut Random, buffer: &mut [u8]) {
+    for _ in 0..random.length(1..=2) {
+        // The phase and its place, count and id; seldom the layout.
+        let place = match random.number() % 8 {
+            0 => random.length(0..=4),
+            _ => random.length(5..=9),
+        };
+        let number = match random.number() % 3 {
+            0 => random.number() % 6,
+            1 => 1 << random.length(0..=63),
+            _ => any_number(random),
+        };
+        put_numbers(&mut buffer[8 * place..][..8], &[number]);
+    }
+}
+
+#[test]
+fn states_of_any_bytes() {
+    cases(2_000, |random| {
+        let mut loans = sound(random);
+        spoil_state(random, loans.state.buffer());
+        if random.number().is_multiple_of(16) {
+            random.fill(loans.state.buffer());
+        }
+        each_call(random, &loans);
+    });
+}
+
+/// Whether bytes hold a state, and that a state's bytes are those that it came from.
+#[test]
+fn states_from_bytes() {
+    cases(50_000, |random| {
+        let mut bytes = [0; STATE_LENGTH];
+        random.fill(&mut bytes);
+        let phase = random.number() % 5;
+        let place = [random.pick(&[0, 0, 1, 9]), random.pick(&[0, 0, 1, 2])];
+        put_numbers(&mut bytes[40..], &[phase, place[0], place[1]]);
+        let state = State::from_bytes(bytes);
+        assert_eq!(state.is_some(), holds_state(&bytes));
+        if let Some(state) = state {
+            assert_eq!(state.to_bytes(), bytes);
+            let numbers = numbers_in(&bytes);
+            assert_eq!(state.layout.provided, numbers[4]);
+            assert_eq!((state.count, state.id), (numbers[8], numbers[9]));
+        }
+    });
+}
+
+/// Volumes as long as may be, and longer.
+#[test]
+fn volumes_around_the_limit() {
+    cases(1, |random| {
+        let good = sound(random);
+        let mut volume = good.volume.bytes().to_vec();
+        for length in [
+            MOST_SECTORS * 512 - 1,
+            MOST_SECTORS * 512,
+            MOST_SECTORS * 512 + 1,
+            (MOST_SECTORS + 1) * 512,
+        ] {
+            volume.resize(length, 0x5a);
+            let mut loans = good.clone();
+            loans.staging = Lent::of(random, &empty_staging(&geometry(&LAYOUT)));
+            loans.volume = Lent::of(random, &volume);
+            let fits = u32::from(length != MOST_SECTORS * 512);
+            assert_eq!(loans.query(LAYOUT.reserved), fits);
+            assert_eq!(loans.open(LAYOUT.reserved), fits);
+            loans.state = good.state.clone();
+            assert_eq!(loans.step(), fits);
+            let number = loans.format(&LAYOUT);
+            assert_eq!(number, if fits == 0 { 3 } else { 1 });
+        }
+    });
+}

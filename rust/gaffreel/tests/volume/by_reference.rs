@@ -1,0 +1,255 @@
+//! The functions of `gaffreel::ffi` as the reference has them: the C interface's rules for buffers, then its calls.
+
+use crate::loans::DONE;
+use gaffreel::volume::{ANSWER_LENGTH, LAYOUT_LENGTH, STATE_LENGTH};
+use reference::volume::{self, Flushed, Half, Layout, Phase, Refusal, Said, State, Stepped};
+
+const WRONG_LENGTH: u32 = 1;
+
+/// The numbers that a call which is carried out leaves in the answer's buffer.
+type Numbers = [u64; 5];
+
+pub fn volume_format(
+    volume: &mut [u8],
+    reserved: usize,
+    shift: usize,
+    width: usize,
+    sections: usize,
+    provided: usize,
+    answer: &mut [u8],
+) -> u32 {
+    if answer.len() != ANSWER_LENGTH {
+        return WRONG_LENGTH;
+    }
+    let layout = Layout {
+        reserved: reserved as u64,
+        log2_run: shift as u64,
+        tag_size: width as u64,
+        sections: sections as u64,
+        provided: provided as u64,
+    };
+    reply(answer, volume::format(volume, &layout).map(|()| [0; 5]))
+}
+
+pub fn volume_query(volume: &[u8], reserved: usize, layout: &mut [u8], answer: &mut [u8]) -> u32 {
+    if layout.len() != LAYOUT_LENGTH || answer.len() != ANSWER_LENGTH {
+        return WRONG_LENGTH;
+    }
+    let queried = volume::query(volume, reserved as u64).map(|queried| {
+        put_numbers(layout, &layout_numbers(&queried.layout));
+        [queried.staging_length as u64, 0, 0, 0, 0]
+    });
+    reply(answer, queried)
+}
+
+pub fn volume_open(
+    volume: &[u8],
+    staging: &mut [u8],
+    reserved: usize,
+    state: &mut [u8],
+    answer: &mut [u8],
+) -> u32 {
+    if answer.len() != ANSWER_LENGTH {
+        return WRONG_LENGTH;
+    }
+    if state.len() != STATE_LENGTH {
+        return reply(answer, Err(Refusal::LengthOrState));
+    }
+    let opened = volume::open(volume, reserved as u64, staging).map(|opened| {
+        put_state(state, &opened.state);
+        [opened.stores_to_come, 0, 0, 0, 0]
+    });
+    reply(answer, opened)
+}
+
+pub fn volume_write(
+    state: &mut [u8],
+    staging: &mut [u8],
+    sector: usize,
+    bytes: &[u8],
+    answer: &mut [u8],
+) -> u32 {
+    on(state, answer, |state| {
+        volume::write(state, staging, sector as u64, bytes).map(|()| [0; 5])
+    })
+}
+
+pub fn volume_flush(state: &mut [u8], answer: &mut [u8]) -> u32 {
+    on(state, answer, |state| {
+        volume::flush(state).map(|flushed| match flushed {
+            Flushed::Acknowledged => [1, 0, 0, 0, 0],
+            Flushed::Committing => [0; 5],
+        })
+    })
+}
+
+pub fn volume_step(
+    state: &mut [u8],
+    volume: &mut [u8],
+    staging: &mut [u8],
+    answer: &mut [u8],
+) -> u32 {
+    on(state, answer, |state| {
+        volume::step(state, volume, staging).map(step_numbers)
+    })
+}
+
+pub fn volume_advance(
+    state: &mut [u8],
+    volume: &mut [u8],
+    staging: &mut [u8],
+    steps: usize,
+    answer: &mut [u8],
+) -> u32 {
+    // No step, and so no test of the state.
+    if steps == 0 && answer.len() == ANSWER_LENGTH && holds_state(state) {
+        return reply(answer, Ok([0; 5]));
+    }
+    on(state, answer, |state| {
+        let advanced = volume::advance(state, volume, staging, steps as u64);
+        let [stored, sector, said, ..] = step_numbers(advanced.last?);
+        let acknowledged = u64::from(advanced.acknowledged);
+        Ok([stored, sector, said, advanced.stores, acknowledged])
+    })
+}
+
+pub fn volume_read(
+    state: &[u8],
+    volume: &[u8],
+    staging: &[u8],
+    sector: usize,
+    bytes: &mut [u8],
+    answer: &mut [u8],
+) -> u32 {
+    on(&mut state.to_vec(), answer, |state| {
+        volume::read(state, volume, staging, sector as u64, bytes).map(|()| [0; 5])
+    })
+}
+
+/// Makes a call on the state in a buffer.
+fn on(
+    buffer: &mut [u8],
+    answer: &mut [u8],
+    call: impl FnOnce(&mut State) -> Result<Numbers, Refusal>,
+) -> u32 {
+    if answer.len() != ANSWER_LENGTH {
+        return WRONG_LENGTH;
+    }
+    let outcome = state_in(buffer).and_then(|mut state| {
+        let outcome = call(&mut state);
+        put_state(buffer, &state);
+        outcome
+    });
+    reply(answer, outcome)
+}
+
+/// Writes what a call said to the answer's buffer, and gives its number.
+fn reply(answer: &mut [u8], outcome: Result<Numbers, Refusal>) -> u32 {
+    let (number, numbers) = match outcome {
+        Ok(numbers) => (DONE, numbers),
+        Err(refusal) => {
+            let values = refusal.values();
+            let mut numbers = [values.len() as u64, 0, 0, 0, 0];
+            numbers[1..][..values.len()].copy_from_slice(&values);
+            (refusal.number(), numbers)
+        }
+    };
+    put_numbers(answer, &numbers);
+    number
+}
+
+fn step_numbers(stepped: Stepped) -> Numbers {
+    let said = match stepped.said {
+        Said::Nothing => 0,
+        Said::Acknowledged => 1,
+        Said::Filling => 2,
+    };
+    match stepped.stored {
+        None => [0, 0, said, 0, 0],
+        Some(sector) => [1, sector, said, 0, 0],
+    }
+}
+
+fn layout_numbers(layout: &Layout) -> [u64; 5] {
+    [
+        layout.reserved,
+        layout.log2_run,
+        layout.tag_size,
+        layout.sections,
+        layout.provided,
+    ]
+}
+
+/// Whether a buffer holds a state: it has the length, its phase is 0 to 3, and place numbers that the phase lacks are 0.
+pub fn holds_state(buffer: &[u8]) -> bool {
+    buffer.len() == STATE_LENGTH
+        && matches!(
+            numbers_in(buffer)[5..8],
+            [0, 0, 0] | [1, _, 0] | [2, _, _] | [3, _, 0]
+        )
+}
+
+/// The state in a buffer. Refused if there is none, or one that is not sound since an entry has but two stores.
+fn state_in(buffer: &[u8]) -> Result<State, Refusal> {
+    if !holds_state(buffer) {
+        return Err(Refusal::LengthOrState);
+    }
+    let numbers = numbers_in(buffer);
+    let (first, second) = (numbers[6], numbers[7]);
+    let phase = match (numbers[5], second) {
+        (0, _) => Phase::Filling,
+        (1, _) => Phase::Committing { sector: first },
+        (2, 0) => Phase::WritingBack {
+            entry: first,
+            half: Half::Data,
+        },
+        (2, 1) => Phase::WritingBack {
+            entry: first,
+            half: Half::Tag,
+        },
+        (2, _) => return Err(Refusal::LengthOrState),
+        _ => Phase::Recovering { store: first },
+    };
+    Ok(State {
+        layout: Layout {
+            reserved: numbers[0],
+            log2_run: numbers[1],
+            tag_size: numbers[2],
+            sections: numbers[3],
+            provided: numbers[4],
+        },
+        phase,
+        count: numbers[8],
+        id: numbers[9],
+    })
+}
+
+/// Writes a state to a buffer of its length.
+pub fn put_state(buffer: &mut [u8], state: &State) {
+    let place = match state.phase {
+        Phase::Filling => [0, 0, 0],
+        Phase::Committing { sector } => [1, sector, 0],
+        Phase::WritingBack { entry, half } => match half {
+            Half::Data => [2, entry, 0],
+            Half::Tag => [2, entry, 1],
+        },
+        Phase::Recovering { store } => [3, store, 0],
+    };
+    let layout = layout_numbers(&state.layout);
+    put_numbers(&mut buffer[..40], &layout);
+    put_numbers(&mut buffer[40..64], &place);
+    put_numbers(&mut buffer[64..], &[state.count, state.id]);
+}
+
+/// The numbers in a buffer.
+pub fn numbers_in(buffer: &[u8]) -> Vec<u64> {
+    let (numbers, _) = buffer.as_chunks();
+    numbers.iter().copied().map(u64::from_le_bytes).collect()
+}
+
+/// Writes numbers to the start of a buffer.
+pub fn put_numbers(buffer: &mut [u8], numbers: &[u64]) {
+    for (part, number) in buffer.chunks_exact_mut(8).zip(numbers) {
+        part.copy_from_slice(&number.to_le_bytes());
+    }
+}

@@ -1,0 +1,247 @@
+//! Each refusal of each call, by the safe wrapper: its number, its values and what it says.
+
+use gaffreel::volume::{advance, flush, format, open, query, read, step, write};
+use gaffreel::volume::{Layout, Phase, State};
+use gaffreel::Refusal;
+use volumes::{put_id, put_section, section, Entry};
+
+const LAYOUT: Layout = Layout {
+    reserved: 2,
+    log2_run: 3,
+    tag_size: 32,
+    sections: 2,
+    provided: 10,
+};
+
+/// The whole layout's sectors.
+const SECTORS: usize = 2 + 8 + 2 * 88 + 2 * 8 + 10;
+
+/// Staging's length.
+const STAGING: usize = 88 * 512;
+
+fn geometry() -> reference::volume::Geometry {
+    volumes::geometry(&reference::volume::Layout {
+        reserved: LAYOUT.reserved,
+        log2_run: LAYOUT.log2_run,
+        tag_size: LAYOUT.tag_size,
+        sections: LAYOUT.sections,
+        provided: LAYOUT.provided,
+    })
+}
+
+fn formatted() -> Vec<u8> {
+    let mut volume = vec![0; SECTORS * 512];
+    format(&mut volume, &LAYOUT).unwrap();
+    volume
+}
+
+/// A volume whose journal has a section of these entries.
+fn with_section(number: usize, id: u64, entries: &[Entry]) -> Vec<u8> {
+    let mut volume = formatted();
+    let section = section(&geometry(), id, entries);
+    put_section(&mut volume, &geometry(), number, &section);
+    volume
+}
+
+fn in_phase(phase: Phase, count: u64) -> State {
+    State {
+        layout: LAYOUT,
+        phase,
+        count,
+        id: 1,
+    }
+}
+
+#[test]
+fn of_format() {
+    let zero = vec![0; SECTORS * 512];
+    let refused = |volume: &[u8], layout: &Layout| format(&mut volume.to_vec(), layout).err();
+    let answer = refused(&zero[1..], &LAYOUT);
+    assert_eq!(answer, Some(Refusal::LengthOrState));
+    let out_of_range = Layout {
+        tag_size: 24,
+        ..LAYOUT
+    };
+    assert_eq!(refused(&zero, &out_of_range), Some(Refusal::OutOfRange));
+    let needed = SECTORS as u64;
+    let too_short = Refusal::VolumeTooShort { needed };
+    assert_eq!(refused(&zero[512..], &LAYOUT), Some(too_short));
+    let answer = refused(&formatted(), &LAYOUT);
+    assert_eq!(answer, Some(Refusal::SuperblockNotZero));
+}
+
+/// What query refuses, open refuses alike.
+#[test]
+fn of_query_and_open() {
+    let whole = formatted();
+    let mut invalid = whole.clone();
+    invalid[2 * 512 + 8] = 5;
+    let zero = vec![0; SECTORS * 512];
+    let short = |needed| Refusal::VolumeTooShort { needed };
+    for (volume, reserved, refusal) in [
+        (&whole[1..], 2, Refusal::LengthOrState),
+        (&whole, 65, Refusal::OutOfRange),
+        (&whole[..9 * 512], 2, short(10)),
+        (&zero, 2, Refusal::SuperblockZero),
+        (&invalid, 2, Refusal::SuperblockNotValid),
+        (&whole[..(SECTORS - 1) * 512], 2, short(SECTORS as u64)),
+    ] {
+        assert_eq!(query(volume, reserved), Err(refusal));
+        let answer = open(volume, reserved, &mut [0; STAGING]);
+        assert_eq!(answer, Err(refusal));
+    }
+    assert_eq!(query(&whole, 2).unwrap().staging_length, STAGING);
+    let answer = open(&whole, 2, &mut [0; STAGING - 1]);
+    assert_eq!(answer, Err(Refusal::LengthOrState));
+}
+
+#[test]
+fn of_open() {
+    let good = Entry::new(3, 1);
+    let beyond = Entry::new(10, 1);
+    let (section, entry) = (1, 2);
+    let used_up = {
+        let mut volume = formatted();
+        put_id(&mut volume, &geometry(), 1, 87, u64::MAX);
+        volume
+    };
+    for (volume, refusal) in [
+        (used_up, Refusal::IdsUsedUp),
+        (
+            with_section(1, 3, &[good]),
+            Refusal::SectionMisplaced { section },
+        ),
+        (
+            with_section(1, 2, &[good, good, beyond]),
+            Refusal::JournalSector { section, entry },
+        ),
+        (
+            with_section(1, 2, &[good, good, good.with_wrong_tag()]),
+            Refusal::JournalTag { section, entry },
+        ),
+    ] {
+        let answer = open(&volume, 2, &mut [0; STAGING]);
+        assert_eq!(answer, Err(refusal));
+    }
+}
+
+#[test]
+fn of_write_and_flush() {
+    let filling = in_phase(Phase::Filling, 0);
+    let full = in_phase(Phase::Filling, 80);
+    let committing = in_phase(Phase::Committing { sector: 0 }, 1);
+    let store = 2;
+    let unsound = in_phase(Phase::WritingBack { entry: 0, store }, 1);
+    for (state, sector, refusal) in [
+        (unsound, 0, Refusal::LengthOrState),
+        (committing, 0, Refusal::NotNow),
+        (filling, 10, Refusal::Sector),
+        (full, 9, Refusal::BatchFull),
+    ] {
+        let answer = write(&mut { state }, &mut [0; STAGING], sector, &[0; 512]);
+        assert_eq!(answer, Err(refusal));
+    }
+    let last_id = State {
+        id: u64::MAX,
+        ..full
+    };
+    for (state, refusal) in [
+        (unsound, Refusal::LengthOrState),
+        (committing, Refusal::NotNow),
+        (last_id, Refusal::IdsUsedUp),
+    ] {
+        assert_eq!(flush(&mut { state }), Err(refusal));
+    }
+}
+
+#[test]
+fn of_step_and_advance() {
+    let entries = [Entry::new(3, 1), Entry::new(10, 2)];
+    let volume = with_section(1, 2, &entries);
+    let staging = section(&geometry(), 0, &entries);
+    let staged = |entry| in_phase(Phase::WritingBack { entry, store: 0 }, 2);
+    let replayed = |store| in_phase(Phase::Recovering { store }, 0);
+    let (section, entry) = (1, 1);
+    for (first, at_hand, refusal) in [
+        (staged(0), staged(1), Refusal::StagedSector { entry }),
+        (
+            replayed(0),
+            replayed(2),
+            Refusal::JournalSector { section, entry },
+        ),
+    ] {
+        let mut loans = (at_hand, volume.clone(), staging.clone());
+        let answer = step(&mut loans.0, &mut loans.1, &mut loans.2);
+        assert_eq!(answer, Err(refusal));
+        assert!(loans == (at_hand, volume.clone(), staging.clone()));
+        // The steps before the refused one stay.
+        let mut loans = (first, volume.clone(), staging.clone());
+        let answer = advance(&mut loans.0, &mut loans.1, &mut loans.2, 9);
+        assert_eq!(answer, Err(refusal));
+        assert_eq!(loans.0, at_hand);
+        let home = geometry().home(3).unwrap();
+        assert_eq!(loans.1[home.data * 512..][..512], [1; 512]);
+    }
+    let answer = step(&mut replayed(4), &mut volume.clone(), &mut staging.clone());
+    assert_eq!(answer, Err(Refusal::LengthOrState));
+}
+
+#[test]
+fn of_read() {
+    let mut volume = with_section(0, 1, &[Entry::new(3, 1)]);
+    let home = geometry().home(4).unwrap();
+    volume[home.data * 512] = 1;
+    let filling = in_phase(Phase::Filling, 0);
+    let recovering = in_phase(Phase::Recovering { store: 1 }, 0);
+    let unsound = in_phase(Phase::Recovering { store: 2 }, 0);
+    for (state, sector, refusal) in [
+        (unsound, 0, Refusal::LengthOrState),
+        (recovering, 0, Refusal::NotNow),
+        (filling, 10, Refusal::Sector),
+        (filling, 4, Refusal::Tag { sector: 4 }),
+    ] {
+        let mut out = [9; 512];
+        let answer = read(&state, &volume, &[0; STAGING], sector, &mut out);
+        assert_eq!((answer, out), (Err(refusal), [9; 512]));
+    }
+}
+
+#[test]
+fn numbers_values_and_messages() {
+    let (needed, section, entry, sector) = (u64::MAX, 5, 6, 7);
+    let rows = [
+        (Refusal::LengthOrLimit, 1, vec![]),
+        (Refusal::LengthOrState, 1, vec![]),
+        (Refusal::OutOfRange, 2, vec![]),
+        (Refusal::SuperblockNotZero, 3, vec![]),
+        (Refusal::SuperblockZero, 3, vec![]),
+        (Refusal::SuperblockNotValid, 4, vec![]),
+        (Refusal::VolumeTooShort { needed }, 5, vec![needed.into()]),
+        (Refusal::Sector, 6, vec![]),
+        (Refusal::StagedSector { entry }, 6, vec![6]),
+        (Refusal::JournalSector { section, entry }, 6, vec![5, 6]),
+        (Refusal::Tag { sector }, 7, vec![7]),
+        (Refusal::JournalTag { section, entry }, 7, vec![5, 6]),
+        (Refusal::BatchFull, 8, vec![]),
+        (Refusal::NotNow, 9, vec![]),
+        (Refusal::IdsUsedUp, 10, vec![]),
+        (Refusal::SectionMisplaced { section }, 11, vec![5]),
+        (Refusal::Mismatch { level: -1 }, 12, vec![-1]),
+        (Refusal::Mismatch { level: 2 }, 12, vec![2]),
+    ];
+    for (refusal, number, values) in &rows {
+        assert_eq!(
+            (refusal.number(), refusal.values()),
+            (*number, values.clone())
+        );
+        // What was met, and what to do.
+        let message = refusal.to_string();
+        assert!(message.contains(": "), "{message}");
+        for value in values {
+            let said = *value == -1 || message.contains(&value.to_string());
+            assert!(said, "{message}");
+        }
+        let alike = rows.iter().filter(|row| row.0.to_string() == message);
+        assert_eq!(alike.count(), 1, "{message}");
+    }
+}

@@ -1,0 +1,236 @@
+//! The volume: a journal replayed, and every sector checked.
+
+use crate::measure::{best_of_rounds, compare, milliseconds, pattern, ratio, time};
+use gaffreel::Refusal;
+use reference::volume::{digest_of_sector, Geometry, Layout, Phase, VOLUME_LIMIT};
+use std::hint::black_box;
+use volumes::{formatted, geometry, put_section, section, Entry};
+
+/// The layout of as many sectors as a volume can provide, in two runs.
+fn greatest_layout(tag_size: u64, sections: u64) -> Layout {
+    let mut layout = Layout {
+        reserved: 0,
+        log2_run: 15,
+        tag_size,
+        sections,
+        provided: 32_769,
+    };
+    layout.provided += (VOLUME_LIMIT - geometry(&layout).sectors) as u64;
+    layout
+}
+
+/// A volume with a full journal, by both sides.
+struct Journal {
+    geometry: Geometry,
+    proved: Side<gaffreel::volume::State>,
+    rust: Side<reference::volume::State>,
+}
+
+/// One side's volume and staging; its state once it is open, and what it reported.
+struct Side<State> {
+    volume: Vec<u8>,
+    staging: Vec<u8>,
+    state: Option<State>,
+    stores_to_come: u64,
+    stores: u64,
+}
+
+impl Journal {
+    /// Tags of 8 bytes, every section whole and full, its entries spread over all sectors.
+    fn new(sections: u64) -> Journal {
+        let layout = greatest_layout(8, sections);
+        let geometry = geometry(&layout);
+        let mut volume = formatted(&layout, 0);
+        for number in 0..geometry.sections {
+            let entries: Vec<Entry> = (0..geometry.entries)
+                .map(|entry| {
+                    let place = number * geometry.entries + entry;
+                    // A prime that does not divide the number of sectors.
+                    let sector = (place * 7919 % geometry.provided) as u64;
+                    Entry::new(sector, (place ^ (place >> 8)) as u8)
+                })
+                .collect();
+            let id = number as u64 + 1;
+            put_section(
+                &mut volume,
+                &geometry,
+                number,
+                &section(&geometry, id, &entries),
+            );
+        }
+        Journal {
+            geometry,
+            proved: Side::new(&geometry, volume.clone()),
+            rust: Side::new(&geometry, volume),
+        }
+    }
+
+    /// The length of all sections.
+    fn length(&self) -> usize {
+        self.geometry.sections * self.geometry.staging_length()
+    }
+
+    /// Both made the stores that they reported, are filling, and left the same volume.
+    fn assert_same(&self) {
+        let stores = (2 * self.geometry.sections * self.geometry.entries) as u64;
+        let (proved, rust) = (&self.proved, &self.rust);
+        assert_eq!((proved.stores_to_come, proved.stores), (stores, stores));
+        assert_eq!((rust.stores_to_come, rust.stores), (stores, stores));
+        let phase = proved.state.as_ref().map(|state| state.phase);
+        assert_eq!(phase, Some(gaffreel::volume::Phase::Filling));
+        let phase = rust.state.as_ref().map(|state| state.phase);
+        assert_eq!(phase, Some(Phase::Filling));
+        assert!(proved.volume == rust.volume);
+        assert!(proved.staging == rust.staging);
+    }
+}
+
+impl<State> Side<State> {
+    fn new(geometry: &Geometry, volume: Vec<u8>) -> Side<State> {
+        Side {
+            volume,
+            // Not zero, so that the pages are touched.
+            staging: vec![1; geometry.staging_length()],
+            state: None,
+            stores_to_come: 0,
+            stores: 0,
+        }
+    }
+}
+
+// The journal stays as it is, so a volume can be opened and recovered again: the same work each time.
+
+impl Side<gaffreel::volume::State> {
+    fn open(&mut self) {
+        let opened = gaffreel::volume::open(black_box(&self.volume), 0, &mut self.staging)
+            .expect("the journal is good");
+        self.state = Some(opened.state);
+        self.stores_to_come = opened.stores_to_come;
+    }
+
+    fn recover(&mut self) {
+        let state = self.state.as_mut().expect("it is open");
+        let advanced =
+            gaffreel::volume::advance(state, &mut self.volume, &mut self.staging, u64::MAX)
+                .expect("the journal is good");
+        self.stores = advanced.stores;
+    }
+}
+
+impl Side<reference::volume::State> {
+    fn open(&mut self) {
+        let opened = reference::volume::open(black_box(&self.volume), 0, &mut self.staging)
+            .expect("the journal is good");
+        self.state = Some(opened.state);
+        self.stores_to_come = opened.stores_to_come;
+    }
+
+    fn recover(&mut self) {
+        let state = self.state.as_mut().expect("it is open");
+        self.stores = reference::volume::recover(state, &mut self.volume, &self.staging)
+            .expect("the journal is good");
+    }
+}
+
+/// A full journal of the most sections opened, and replayed to its end.
+pub fn journal_recovered() {
+    let mut journal = Journal::new(64);
+    let length = journal.length();
+    let (proved, rust) = (&mut journal.proved, &mut journal.rust);
+    compare(
+        "journal of 64 full sections opened and recovered",
+        length,
+        || {
+            proved.open();
+            proved.recover();
+        },
+        || {
+            rust.open();
+            rust.recover();
+        },
+    );
+    journal.assert_same();
+}
+
+/// Every sector of a volume of 32 MiB read, and its tag computed; a few don't fit.
+pub fn sectors_checked() {
+    let layout = greatest_layout(32, 1);
+    assert_eq!(layout.provided, 61_344);
+    let geometry = geometry(&layout);
+    let mut volume = formatted(&layout, 0);
+    let data = pattern(geometry.provided * 512);
+    let (sectors, _) = data.as_chunks();
+    for (number, bytes) in (0..).zip(sectors) {
+        let home = geometry.home(number).expect("it is provided");
+        let mut tag = digest_of_sector(number, bytes);
+        tag[31] ^= u8::from(number % 10_000 == 9_999);
+        volume[home.data * 512..][..512].copy_from_slice(bytes);
+        volume[home.tag..][..32].copy_from_slice(&tag);
+    }
+    let mut staging = vec![1; geometry.staging_length()];
+    let mut proved = vec![];
+    let mut rust = vec![];
+    compare(
+        "61344 sectors checked",
+        data.len(),
+        || proved = bad_sectors(black_box(&volume), &mut staging),
+        || {
+            rust = reference::volume::check(black_box(&volume), 0)
+                .expect("the volume is good")
+                .bad;
+        },
+    );
+    assert_eq!(proved.len(), 6);
+    assert_eq!(proved, rust);
+}
+
+/// The sectors that cannot be read, since their tags don't fit.
+fn bad_sectors(volume: &[u8], staging: &mut [u8]) -> Vec<u64> {
+    let opened = gaffreel::volume::open(volume, 0, staging).expect("the volume is good");
+    let mut out = [0; 512];
+    (0..opened.state.layout.provided)
+        .filter(|&sector| {
+            let answer = gaffreel::volume::read(&opened.state, volume, staging, sector, &mut out);
+            assert!(answer.is_ok() || answer == Err(Refusal::Tag { sector }));
+            answer.is_err()
+        })
+        .collect()
+}
+
+/// A table: how the times of open and of the recovery grow with the number of sections, all full.
+pub fn recovery_by_sections() {
+    println!();
+    println!(
+        "{:<30} {:>28}   {:>28}",
+        "full sections", "open", "recovery"
+    );
+    let columns = format!("{:>10} {:>10} {:>6}", "proved ms", "Rust ms", "ratio");
+    println!("{:<30} {columns}   {columns}", "");
+    for sections in [1, 4, 16, 64] {
+        let mut journal = Journal::new(sections);
+        let (proved, rust) = (&mut journal.proved, &mut journal.rust);
+        let [proved_open, rust_open, proved_recovery, rust_recovery] = best_of_rounds(|| {
+            [
+                time(|| proved.open()),
+                time(|| rust.open()),
+                time(|| proved.recover()),
+                time(|| rust.recover()),
+            ]
+        });
+        journal.assert_same();
+        let pair = |proved, rust| {
+            format!(
+                "{:>10.2} {:>10.2} {:>6.2}",
+                milliseconds(proved),
+                milliseconds(rust),
+                ratio(proved, rust)
+            )
+        };
+        println!(
+            "{:<30} {}   {}",
+            format!("{sections}, {} stores", journal.rust.stores),
+            pair(proved_open, rust_open),
+            pair(proved_recovery, rust_recovery)
+        );
+    }
+}
