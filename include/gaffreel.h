@@ -189,7 +189,8 @@ uint32_t gaffreel_sha256_finish(const uint8_t *state, size_t state_length, uint8
 /*
  * The length of an answer, in bytes: five numbers, at 0, 8, 16, 24 and 32. After a refusal: how many values are also
  * returned, the first, the second, 0, 0. After a call that was carried out, what the call says below; numbers that it does
- * not name are 0. An answer's buffer is written whenever it has this length.
+ * not name are 0. An answer's buffer of this length is written by every call, but for a query whose layout's buffer has a
+ * wrong length.
  */
 #define GAFFREEL_VOLUME_ANSWER_SIZE 40
 
@@ -297,7 +298,8 @@ uint32_t gaffreel_volume_step(uint8_t *state, size_t state_length, uint8_t *volu
  * Answer: the three numbers of the last step (0 where none was asked); how many stores were made; 1 where a step said
  * acknowledged, else 0.
  *
- * Refused as gaffreel_volume_step is, where the last step is. Steps before it may have been carried out.
+ * Refused as gaffreel_volume_step is, where the last step is. Steps before it may have been carried out, and are not
+ * counted in the answer; a phase that was GAFFREEL_VOLUME_COMMITTING and no longer is shows that the batch was acknowledged.
  */
 uint32_t gaffreel_volume_advance(uint8_t *state, size_t state_length, uint8_t *volume, size_t volume_length,
                                  uint8_t *staging, size_t staging_length, size_t steps, uint8_t *answer,
