@@ -1,4 +1,2 @@
--- The digest's part: its theorems are in StateBytes, what the proofs of its functions cite in the others.
-pub mod StateBytes
-mod Buffer
+-- The digest's part: what the proofs of its functions cite.
 mod Calls

@@ -1,5 +1,3 @@
--- The volume's part: its theorems are in StateBytes and Refusals, what the proofs of its functions cite in the others.
-pub mod StateBytes
+-- The volume's part: its theorem is in Refusals, what the proofs of its functions cite in Calls.
 pub mod Refusals
-mod Buffer
 mod Calls

@@ -20,7 +20,8 @@ use Rattle.octets.specs.Choice.{pick, firstMet}
 use Rattle.tree.specs.Places.{digestSize, mostBlocks, treeLength}
 use Rattle.tree.specs.Build.{buildOf}
 use Rattle.tree.specs.Verify.{verifyOf}
-use Rattle.gaffreel.specs.Outcome.{Outcome, done, wrongLength, refused, differs}
+use Rattle.buffers.specs.Replies.{done}
+use Rattle.gaffreel.specs.Outcome.{Outcome, wrongLength, refused, differs}
 
 -- ---- length
 

@@ -1,5 +1,4 @@
 -- What the exported calls leave: what they have in common, then the calls of each part.
-pub mod Numbers
 pub mod Outcome
 pub mod Sha256
 pub mod HashTree

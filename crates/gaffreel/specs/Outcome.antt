@@ -1,6 +1,5 @@
 -- What a call of the C interface leaves, for a call that is lent one buffer to write to. Document 01, "Refusal numbers".
 --
--- done           : the number of a call that was carried out
 -- wrongLength    : document 01's number where a buffer has a wrong length
 -- carriedOut b   : the call was carried out, and b is what the buffer then holds
 -- refused n b    : the call was refused with the number n, and the buffer holds b as before
@@ -9,15 +8,13 @@ use Prim.Native.Nat.{ℕ}
 use mathlib.Core.Bool.{Bool, not}
 use mathlib.Core.List.{List}
 use lib.Dec.{eqb}
+use Rattle.buffers.specs.Replies.{done}
 
 pub record Outcome : Type 0 where
   -- the number that the call answers
   pub number : ℕ
   -- the content of the buffer afterwards
   pub buffer : List ℕ
-
-abbrev pub done : ℕ
-done = 0
 
 abbrev pub wrongLength : ℕ
 wrongLength = 1

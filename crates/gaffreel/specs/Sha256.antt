@@ -1,66 +1,20 @@
--- The digest's calls over buffers, and how a state lies in a buffer. Document 01, "Digest"; numbers are little-endian.
+-- The digest's calls over buffers. Document 01, "Digest".
 --
--- digestSize, stateSize     : the length of a digest and of a state, in bytes
--- tailAt, countAt           : where the tail and the count of a state start, in bytes; its words start at 0
--- wordsOf n b               : the first n words in b, each in 4 bytes
--- wordBytesOf ws            : the words ws, each in 4 bytes
--- decodeOf b                : the state in the bytes b: eight words, the tail's 64 bytes, the count in 8 bytes
--- encodeOf s                : the bytes of the state s: words, tail and count, one behind the other
--- IsState s                 : s is a state that the code's type can hold
 -- refuses a                 : whether the digest's answer a is a refusal
 -- sha256Call m d            : what gaffreel_sha256 leaves of the message m and the digest's buffer d
 -- newCall s                 : what gaffreel_sha256_new leaves of the state's buffer s
 -- updateCall s p            : what gaffreel_sha256_update leaves of the state's buffer s and the piece p
 -- finishCall s d            : what gaffreel_sha256_finish leaves of the state's buffer s and the digest's buffer d
-use Prim.Native.Nat.{ℕ, _^_, _<_}
+use Prim.Native.Nat.{ℕ}
 use mathlib.Core.Bool.{Bool}
-use mathlib.Core.List.{List, [], _∷_, _++_}
-use mathlib.Core.Path.{_≡_}
-use lib.ListN.{length, getD}
-use Rattle.octets.specs.Numbers.{Bytes, le, value}
-use Rattle.octets.specs.Parts.{part}
+use mathlib.Core.List.{List, [], _∷_}
+use lib.ListN.{length}
 use Rattle.octets.specs.Choice.{firstMet}
 use Rattle.digest.specs.declared.Answer.{Answer}
-use Rattle.digest.specs.declared.State.{State}
 use Rattle.digest.specs.Pieces.{numberOf, freshOf, updateOf, finishOf, digestOf}
-use Rattle.gaffreel.specs.Numbers.{numbersIn, numberBytes}
-use Rattle.gaffreel.specs.Outcome.{Outcome, done, wrongLength, carriedOut, refused, differs}
-
-abbrev pub digestSize : ℕ
-digestSize = 32
-
--- ---- a state in a buffer
-
-abbrev pub stateSize : ℕ
-stateSize = 104
-
-abbrev pub tailAt : ℕ
-tailAt = 32
-
-abbrev pub countAt : ℕ
-countAt = 96
-
-abbrev pub wordsOf : ℕ → List ℕ → List ℕ
-wordsOf n b = numbersIn 4 n b
-
-abbrev pub wordBytesOf : List ℕ → List ℕ
-wordBytesOf ws = numberBytes 4 ws
-
-unfoldable pub decodeOf : List ℕ → State
-decodeOf b = record { words = wordsOf 8 b; tail = part b tailAt 64; count = value (part b countAt 8) }
-
-unfoldable pub encodeOf : State → List ℕ
-encodeOf s = wordBytesOf (s .words) ++ (s .tail ++ le 8 (s .count))
-
--- eight words of 32 bits, a tail of 64 bytes and a count of 64 bits
-pub record IsState (s : State) : Type 0 where
-  pub eight : length (s .words) ≡ 8
-  pub words : (i : ℕ) → getD (s .words) i 0 < 2 ^ 32
-  pub full : length (s .tail) ≡ 64
-  pub bytes : Bytes (s .tail)
-  pub count : s .count < 2 ^ 64
-
--- ---- the calls
+use Rattle.buffers.specs.DigestState.{digestSize, stateSize, decodeOf, encodeOf}
+use Rattle.buffers.specs.Replies.{done}
+use Rattle.gaffreel.specs.Outcome.{Outcome, wrongLength, carriedOut, refused, differs}
 
 abbrev pub refuses : Answer → Bool
 refuses a = differs (numberOf a) done

@@ -1,23 +1,5 @@
--- The volume's calls over buffers, and how a state and an answer lie in a buffer. Document 01, "Working a volume" and "Refusal numbers".
+-- The volume's calls over buffers. Document 01, "Working a volume" and "Refusal numbers".
 --
--- A state is ten numbers, an answer and a layout are five, of 8 bytes each, little-endian.
---
--- stateSize, answerSize, layoutSize : the length of a state, an answer and a layout, in bytes
--- numberAt b k              : number k in the bytes b
--- phaseNumbersOf p          : the phase p as three numbers: which it is, and the two of its place, 0 where it has none
--- phaseOf p x y             : the phase of the numbers p, x, y
--- isPhase p x y             : whether they are those of a phase
--- layoutBytesOf g           : the bytes of the layout g
--- layoutOf b                : the layout whose numbers b begins with
--- encodeOf s                : the bytes of the state s: layout, phase, count and id
--- decodeOf b                : the state in the bytes b
--- encodesState b            : whether b has the length of a state, and the numbers of a phase in their places
--- IsState s                 : s is a state that the code's type can hold
--- Reply                     : what a call says: the number that it answers, and the five numbers of its answer
--- answerBytesOf r           : the bytes of the five numbers of the reply r
--- carriedOut a b c d e      : the reply of a call that was carried out, with these five numbers
--- refusal r                 : the reply of a call that was refused with r: how many values are also returned, then these
--- formatReply a ..          : the reply where the call of that name gave the answer a
 -- formatLeaves o ..         : what the call of that name leaves where the model's has the result o
 -- formatCall v g a          : what gaffreel_volume_format leaves of the volume v, the layout g and the answer's buffer a
 -- writeCall s st n b a      : what gaffreel_volume_write leaves of the state's buffer s, staging st, sector n, its bytes b, and a
@@ -27,40 +9,16 @@
 -- queryCall v r l a         : what gaffreel_volume_query leaves; l is the buffer that receives the layout
 -- stepCall s v st a         : what gaffreel_volume_step leaves
 -- advanceCall s v st n a    : what gaffreel_volume_advance leaves, for n steps
-use Prim.Native.Nat.{ℕ, _*_, _^_, _<_}
-use mathlib.Core.Bool.{Bool, not, _&&_, _||_}
-use mathlib.Core.List.{List, [], _∷_, _++_}
-use lib.Dec.{eqb}
-use lib.ListN.{length, getD}
-use Rattle.octets.specs.Numbers.{value}
-use Rattle.octets.specs.Parts.{part}
+use Prim.Native.Nat.{ℕ}
+use mathlib.Core.Bool.{not}
+use mathlib.Core.List.{List, [], _∷_}
+use lib.ListN.{length}
 use Rattle.octets.specs.Choice.{pick, firstMet}
-use Rattle.model.specs.declared.Done.{Done}
-use Rattle.model.specs.declared.Done.the-variants.{Idle, Stored}
-use Rattle.model.specs.declared.FlushAnswer.{FlushAnswer}
-use Rattle.model.specs.declared.FlushAnswer.the-variants as flushing
 use Rattle.model.specs.declared.Flushed.{Flushed}
-use Rattle.model.specs.declared.FormatAnswer.{FormatAnswer}
-use Rattle.model.specs.declared.FormatAnswer.the-variants as formatting
 use Rattle.model.specs.declared.Layout.{Layout}
-use Rattle.model.specs.declared.OpenAnswer.{OpenAnswer}
-use Rattle.model.specs.declared.OpenAnswer.the-variants as opening
-use Rattle.model.specs.declared.Phase.{Phase}
-use Rattle.model.specs.declared.Phase.the-variants.{Filling, Committing, WritingBack, Recovering}
 use Rattle.model.specs.declared.QueryAnswer.{QueryAnswer}
-use Rattle.model.specs.declared.QueryAnswer.the-variants as querying
-use Rattle.model.specs.declared.ReadAnswer.{ReadAnswer}
-use Rattle.model.specs.declared.ReadAnswer.the-variants as reading
-use Rattle.model.specs.declared.Refusal.{Refusal}
 use Rattle.model.specs.declared.Refusal.the-variants.{Malformed}
-use Rattle.model.specs.declared.Says.{Says}
-use Rattle.model.specs.declared.Says.the-variants as saying
-use Rattle.model.specs.declared.State.{State}
-use Rattle.model.specs.declared.StepAnswer.{StepAnswer}
-use Rattle.model.specs.declared.StepAnswer.the-variants as stepping
-use Rattle.model.specs.declared.WriteAnswer.{WriteAnswer}
-use Rattle.model.specs.declared.WriteAnswer.the-variants as writing
-use Rattle.model.specs.Refusal.{numberOf, valuesOf}
+use Rattle.model.specs.Refusal.{numberOf}
 use Rattle.model.specs.Tag.{tagOf}
 use Rattle.model.specs.Format.{FormatResult, formatOf}
 use Rattle.model.specs.Write.{WriteResult, writeOf}
@@ -72,152 +30,10 @@ use Rattle.model.specs.Query.{queryOf}
 use Rattle.model.specs.Store.{afterEffect}
 use Rattle.model.specs.Step.{StepResult, stepOf}
 use Rattle.model.specs.Advance.{AdvanceResult, advanceOf}
-use Rattle.gaffreel.specs.declared.volumes.PhaseNumbers.{PhaseNumbers}
-use Rattle.gaffreel.specs.declared.volumes.Reply.{Reply}
-use Rattle.gaffreel.specs.Numbers.{numberBytes}
-use Rattle.gaffreel.specs.Outcome.{done, wrongLength, differs}
-
--- ---- a state in a buffer
-
-abbrev pub stateSize : ℕ
-stateSize = 80
-
-abbrev pub numberAt : List ℕ → ℕ → ℕ
-numberAt b k = value (part b (8 * k) 8)
-
-abbrev pub phaseNumbersOf : Phase → PhaseNumbers
-phaseNumbersOf Filling = record { phase = 0; first = 0; second = 0 }
-phaseNumbersOf (Committing j) = record { phase = 1; first = j; second = 0 }
-phaseNumbersOf (WritingBack i h) = record { phase = 2; first = i; second = h }
-phaseNumbersOf (Recovering k) = record { phase = 3; first = k; second = 0 }
-
-unfoldable pub phaseOf : ℕ → ℕ → ℕ → Phase
-phaseOf p x y = firstMet ((eqb p 0, Filling) ∷ (eqb p 1, Committing x) ∷ (eqb p 2, WritingBack x y) ∷ []) (Recovering x)
-
-unfoldable pub isPhase : ℕ → ℕ → ℕ → Bool
-isPhase p x y =
-    (eqb p 0 && (eqb x 0 && eqb y 0))
-    || ((eqb p 1 && eqb y 0)
-    || (eqb p 2
-    || (eqb p 3 && eqb y 0)))
-
-unfoldable pub layoutBytesOf : Layout → List ℕ
-layoutBytesOf g = numberBytes 8 (g .reserved ∷ g .shift ∷ g .width ∷ g .sections ∷ g .provided ∷ [])
-
-unfoldable pub layoutOf : List ℕ → Layout
-layoutOf b =
-    record {
-      reserved = numberAt b 0;
-      shift = numberAt b 1;
-      width = numberAt b 2;
-      sections = numberAt b 3;
-      provided = numberAt b 4;
-    }
-
-unfoldable pub encodeOf : State → List ℕ
-encodeOf s =
-    layoutBytesOf (s .layout)
-    ++ numberBytes 8
-    (phaseNumbersOf (s .phase) .phase
-    ∷ phaseNumbersOf (s .phase) .first
-    ∷ phaseNumbersOf (s .phase) .second
-    ∷ s .count
-    ∷ s .id
-    ∷ [])
-
-unfoldable pub decodeOf : List ℕ → State
-decodeOf b =
-    record {
-      layout = layoutOf b;
-      phase = phaseOf (numberAt b 5) (numberAt b 6) (numberAt b 7);
-      count = numberAt b 8;
-      id = numberAt b 9;
-    }
-
-unfoldable pub encodesState : List ℕ → Bool
-encodesState b = eqb (length b) stateSize && isPhase (numberAt b 5) (numberAt b 6) (numberAt b 7)
-
--- every number has 64 bits
-pub record IsState (s : State) : Type 0 where
-  pub reserved : s .layout .reserved < 2 ^ 64
-  pub shift : s .layout .shift < 2 ^ 64
-  pub width : s .layout .width < 2 ^ 64
-  pub sections : s .layout .sections < 2 ^ 64
-  pub provided : s .layout .provided < 2 ^ 64
-  pub first : phaseNumbersOf (s .phase) .first < 2 ^ 64
-  pub second : phaseNumbersOf (s .phase) .second < 2 ^ 64
-  pub count : s .count < 2 ^ 64
-  pub id : s .id < 2 ^ 64
-
--- ---- an answer in a buffer
-
-abbrev pub answerSize : ℕ
-answerSize = 40
-
-unfoldable pub answerBytesOf : Reply → List ℕ
-answerBytesOf r = numberBytes 8 (r .first ∷ r .second ∷ r .third ∷ r .fourth ∷ r .fifth ∷ [])
-
-abbrev pub carriedOut : ℕ → ℕ → ℕ → ℕ → ℕ → Reply
-carriedOut a b c d e = record { number = done; first = a; second = b; third = c; fourth = d; fifth = e }
-
-abbrev pub refusal : Refusal → Reply
-refusal r =
-    record {
-      number = numberOf r;
-      first = length (valuesOf r);
-      second = getD (valuesOf r) 0 0;
-      third = getD (valuesOf r) 1 0;
-      fourth = 0;
-      fifth = 0;
-    }
-
-abbrev pub formatReply : FormatAnswer → Reply
-formatReply formatting.Formatted = carriedOut 0 0 0 0 0
-formatReply (formatting.Refused r) = refusal r
-
-abbrev pub writeReply : WriteAnswer → Reply
-writeReply writing.Taken = carriedOut 0 0 0 0 0
-writeReply (writing.Refused r) = refusal r
-
--- 1 where the batch is acknowledged at once, 0 where committing begins
-abbrev pub flushReply : FlushAnswer → Reply
-flushReply flushing.Acknowledged = carriedOut 1 0 0 0 0
-flushReply flushing.Begun = carriedOut 0 0 0 0 0
-flushReply (flushing.Refused r) = refusal r
-
-abbrev pub readReply : ReadAnswer → Reply
-readReply reading.Found = carriedOut 0 0 0 0 0
-readReply (reading.Refused r) = refusal r
-
--- the stores to come
-abbrev pub openReply : OpenAnswer → Reply
-openReply (opening.Opened s n) = carriedOut n 0 0 0 0
-openReply (opening.Refused r) = refusal r
-
--- the bytes that staging must have
-abbrev pub queryReply : QueryAnswer → Reply
-queryReply (querying.Holds g n) = carriedOut n 0 0 0 0
-queryReply (querying.Refused r) = refusal r
-
--- 1 where a sector was stored, else 0
-abbrev pub storedOf : Done → ℕ
-storedOf Idle = 0
-storedOf (Stored n) = 1
-
--- that sector, else 0
-abbrev pub sectorOf : Done → ℕ
-sectorOf Idle = 0
-sectorOf (Stored n) = n
-
-abbrev pub saysOf : Says → ℕ
-saysOf saying.Nothing = 0
-saysOf saying.Acknowledged = 1
-saysOf saying.Filling = 2
-
--- with two numbers more, n and k
-abbrev pub stepReply : StepAnswer → ℕ → ℕ → Reply
-stepReply (stepping.Stepped d x) n k = carriedOut (storedOf d) (sectorOf d) (saysOf x) n k
-stepReply (stepping.Refused r) n k = refusal r
+use Rattle.buffers.specs.declared.replies.Reply.{Reply}
+use Rattle.buffers.specs.VolumeState.{stateSize, layoutSize, encodeOf, decodeOf, encodesState}
+use Rattle.buffers.specs.Replies.{answerSize, answerBytesOf, refusal, formatReply, writeReply, flushReply, readReply, openReply, queryReply, stepReply, openedBytes, heldBytes}
+use Rattle.gaffreel.specs.Outcome.{wrongLength, differs}
 
 -- ---- format
 
@@ -313,11 +129,6 @@ pub record OpenCall : Type 0 where
   pub state : List ℕ
   pub answer : List ℕ
 
--- the state's buffer s afterwards
-abbrev pub openedBytes : OpenAnswer → List ℕ → List ℕ
-openedBytes (opening.Opened d n) s = encodeOf d
-openedBytes (opening.Refused r) s = s
-
 abbrev pub openLeaves : OpenResult → List ℕ → OpenCall
 openLeaves o s =
     record {
@@ -339,18 +150,10 @@ openCall v st r s a =
 
 -- ---- query
 
-abbrev pub layoutSize : ℕ
-layoutSize = 40
-
 pub record QueryCall : Type 0 where
   pub number : ℕ
   pub layout : List ℕ
   pub answer : List ℕ
-
--- the layout's buffer l afterwards
-abbrev pub heldBytes : QueryAnswer → List ℕ → List ℕ
-heldBytes (querying.Holds g n) l = layoutBytesOf g
-heldBytes (querying.Refused r) l = l
 
 abbrev pub queryLeaves : QueryAnswer → List ℕ → QueryCall
 queryLeaves o l = record { number = queryReply o .number; layout = heldBytes o l; answer = answerBytesOf (queryReply o) }

@@ -1,7 +1,7 @@
 // The hash tree's calls: document 01, "Hash tree". What each leaves is defined in specs/HashTree.antt.
-use crate::DONE;
 use crate::WRONG_LENGTH;
-use crate::sha256;
+use buffers::DONE;
+use buffers::digest_state;
 use tree::Answer;
 ghost use mathlib.Core.Path.{_≡_};
 ghost use lib.ListN.{length};
@@ -40,7 +40,7 @@ pub extern "C" fn gaffreel_tree_build(
 ) -> u32
     ensures { λ r. ⌜ record { number = r; tree = now (tree .exit); root = now (root .exit) } ≡ buildCall count (now (salt .entry)) (now (image .entry)) (now (tree .entry)) (now (root .entry)) ⌝ }
 {
-    if root.len() != sha256::DIGEST_SIZE {
+    if root.len() != digest_state::DIGEST_SIZE {
         return WRONG_LENGTH;
     }
     let built = tree::build(count, salt, image, tree);
@@ -50,7 +50,7 @@ pub extern "C" fn gaffreel_tree_build(
         return number;
     }
     let bytes = built.root;
-    sha256::put_digest(bytes, root);
+    digest_state::put_digest(bytes, root);
     DONE
 }
 

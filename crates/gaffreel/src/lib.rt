@@ -7,8 +7,5 @@ pub mod hash_tree;
 pub mod sha256;
 pub mod volumes;
 
-// The number of a call that was carried out.
-pub(crate) const DONE: u32 = 0;
-
 // The number where a buffer has a wrong length.
 pub(crate) const WRONG_LENGTH: u32 = 1;

@@ -1,23 +1,17 @@
 // The digest's calls: document 01, "Digest". What each leaves is defined in specs/Sha256.antt.
 //
-// A state lies between two calls in a buffer of the caller's: the words, each in 4 bytes, then the tail, then the count in 8 bytes,
-// all little-endian. Any bytes of that length are a state.
-use crate::DONE;
+// A state lies between two calls in a buffer of the caller's, which crate buffers lays out. Any bytes of its length are a state.
 use crate::WRONG_LENGTH;
-use digest::State;
+use buffers::DONE;
+use buffers::digest_state::DIGEST_SIZE;
+use buffers::digest_state::decode;
+use buffers::digest_state::encode;
+use buffers::digest_state::put_digest;
 ghost use mathlib.Core.Path.{_≡_};
-ghost use lib.ListN.{length, take};
-ghost use Rattle.octets.specs.Parts.{patch};
-ghost use Rattle.gaffreel.specs.Sha256.{stateSize, tailAt, wordsOf, wordBytesOf, encodeOf, decodeOf, digestSize, sha256Call, newCall, updateCall, finishCall};
+ghost use Rattle.gaffreel.specs.Sha256.{sha256Call, newCall, updateCall, finishCall};
 
-// Lengths and indexes in bytes.
-pub(crate) const DIGEST_SIZE: usize = 32;
-
+// The length of a state, in bytes.
 const STATE_SIZE: usize = 104;
-
-const TAIL_AT: usize = 32;
-
-const COUNT_AT: usize = 96;
 
 // The digest of a message that is lent whole. Refused where the digest's buffer has a wrong length, or the message is past the limit.
 #[no_mangle]
@@ -90,82 +84,4 @@ pub extern "C" fn gaffreel_sha256_finish(state: &[u8], digest: &mut [u8]) -> u32
     let bytes = closed.digest;
     put_digest(bytes, digest);
     DONE
-}
-
-// A digest copied into a buffer of its length. (By value, so that the array's length is known.)
-pub(crate) fn put_digest(bytes: [u8; 32], buffer: &mut [u8])
-    requires { ⌜ length (now buffer) ≡ digestSize ⌝ }
-    ensures { λ _. ⌜ now (buffer .exit) ≡ bytes ⌝ }
-{
-    octets::copy_at(buffer, 0, &bytes, 0, DIGEST_SIZE);
-}
-
-// The state in a buffer of its length.
-fn decode(buffer: &[u8]) -> State
-    requires { ⌜ length (now buffer) ≡ stateSize ⌝ }
-    ensures { λ r. ⌜ r ≡ decodeOf (now (buffer .entry)) ⌝ }
-{
-    let words = read_words(buffer);
-    let mut tail = [0u8; 64];
-    octets::copy_at(&mut tail, 0, buffer, TAIL_AT, 64);
-    let count = octets::number(buffer, COUNT_AT, 8);
-    State {
-        words: words,
-        tail: tail,
-        count: count,
-    }
-}
-
-// The words of the state in a buffer.
-fn read_words(buffer: &[u8]) -> [u32; 8]
-    requires { ⌜ length (now buffer) ≡ stateSize ⌝ }
-    ensures { λ r. ⌜ r ≡ wordsOf 8 (now (buffer .entry)) ⌝ }
-{
-    let mut words = [0u32; 8];
-    let mut i: usize = 0;
-    while i < 8 {
-        words[i] = octets::number(buffer, 4 * i, 4) as u32;
-        i += 1;
-    }
-    words
-}
-
-// A state written over a buffer of its length.
-fn encode(s: State, buffer: &mut [u8])
-    requires { ⌜ length (now buffer) ≡ stateSize ⌝ }
-    ensures { λ _. ⌜ now (buffer .exit) ≡ encodeOf s ⌝ }
-{
-    let words = s.words;
-    put_words(words, buffer);
-    let tail = s.tail;
-    put_tail(tail, buffer);
-    let count = s.count;
-    octets::put_number(buffer, COUNT_AT, 8, count);
-}
-
-// The words written from index 0.
-fn put_words(words: [u32; 8], buffer: &mut [u8])
-    requires { ⌜ length (now buffer) ≡ stateSize ⌝ }
-    ensures { λ _. ⌜ take tailAt (now (buffer .exit)) ≡ wordBytesOf words ⌝ }
-{
-    let mut i: usize = 0;
-    while i < 8 {
-        octets::put_number(buffer, 4 * i, 4, wide(words[i]));
-        i += 1;
-    }
-}
-
-// The tail copied behind the words.
-fn put_tail(tail: [u8; 64], buffer: &mut [u8])
-    requires { ⌜ length (now buffer) ≡ stateSize ⌝ }
-    ensures { λ _. ⌜ (now (buffer .exit) ≡ patch (now (buffer .entry)) tailAt tail) × (length tail ≡ 64) ⌝ }
-{
-    octets::copy_at(buffer, TAIL_AT, &tail, 0, 64);
-}
-
-// A word as a u64.
-fn wide(w: u32) -> u64
-    ensures { λ r. ⌜ r ≡ w ⌝ }
-{
-    w as u64
 }

@@ -18,7 +18,8 @@ use Rattle.tree.specs.Places.{digestSize, mostBlocks, treeLength}
 use Rattle.tree.specs.Answer.{Refusal, numberOf, valuesOf, refusalOf}
 use Rattle.tree.specs.Build.{BuildOutcome, outcomeOf, buildRows, builtOf, buildOf}
 use Rattle.tree.specs.Verify.{verifyOf}
-use Rattle.gaffreel.specs.Outcome.{done, wrongLength, refused}
+use Rattle.buffers.specs.Replies.{done}
+use Rattle.gaffreel.specs.Outcome.{wrongLength, refused}
 use Rattle.gaffreel.specs.HashTree.{lengthCall, refusedBuild, buildCall, levelSize, levelBufferOf, verifyCall}
 
 -- ---- gaffreel_tree_length

@@ -8,8 +8,10 @@ use Rattle.digest.specs.declared.State.{State}
 use Rattle.digest.specs.declared.Updated.{Updated}
 use Rattle.digest.specs.declared.Closed.{Closed}
 use Rattle.digest.specs.Pieces.{numberOf, freshOf, updateOf, finishOf, digestOf}
-use Rattle.gaffreel.specs.Outcome.{done, wrongLength, carriedOut, refused}
-use Rattle.gaffreel.specs.Sha256.{digestSize, stateSize, decodeOf, encodeOf, sha256Call, newCall, updateCall, finishCall}
+use Rattle.buffers.specs.Replies.{done}
+use Rattle.gaffreel.specs.Outcome.{wrongLength, carriedOut, refused}
+use Rattle.buffers.specs.DigestState.{digestSize, stateSize, decodeOf, encodeOf}
+use Rattle.gaffreel.specs.Sha256.{sha256Call, newCall, updateCall, finishCall}
 
 -- ---- gaffreel_sha256
 

@@ -30,9 +30,11 @@ use Rattle.model.specs.Query.{queryOf}
 use Rattle.model.specs.Step.{StepResult, stepOf}
 use Rattle.model.specs.Advance.{advanceOf}
 use Rattle.volume.specs.Results.{written, advanced, Leaves}
-use Rattle.gaffreel.specs.declared.volumes.Reply.{Reply}
+use Rattle.buffers.specs.declared.replies.Reply.{Reply}
 use Rattle.gaffreel.specs.Outcome.{wrongLength}
-use Rattle.gaffreel.specs.Volumes.{decodeOf, encodeOf, encodesState, answerSize, answerBytesOf, refusal, formatReply, writeReply, flushReply, readReply, openReply, queryReply, formatCall, writeCall, flushCall, readCall, stateSize, openedBytes, openCall, layoutSize, heldBytes, queryCall, stepReply, stepCall, advanceReply, advanceCall}
+use Rattle.buffers.specs.VolumeState.{decodeOf, encodeOf, encodesState, stateSize, layoutSize}
+use Rattle.buffers.specs.Replies.{answerSize, answerBytesOf, refusal, formatReply, writeReply, flushReply, readReply, openReply, queryReply, openedBytes, heldBytes, stepReply}
+use Rattle.gaffreel.specs.Volumes.{formatCall, writeCall, flushCall, readCall, openCall, queryCall, stepCall, advanceReply, advanceCall}
 
 -- the number answered and the answer's buffer hold the reply r
 pub record Replied (r : Reply) (n : ℕ) (a : List ℕ) : Type 0 where

@@ -27,9 +27,10 @@ use Rattle.model.specs.Query.{queryBy, queryWith}
 use Rattle.model.specs.Store.{afterEffect, Place, storeOf}
 use Rattle.model.specs.Step.{placeAt, stepRows, commitStep, homeStep, recoverPlace, phaseStep, stepBy, stepOf}
 use Rattle.model.proofs.Replays.{Which, isTrue, isFalse, which}
-use Rattle.gaffreel.specs.Outcome.{done}
-use Rattle.gaffreel.specs.Volumes.{encodeOf, decodeOf, encodesState, answerSize, formatReply, writeReply, flushReply, readReply, openReply, queryReply, stepReply, formatCall, writeCall, flushCall, readCall, stateSize, openedBytes, openCall, layoutSize, heldBytes, queryCall, stepCall}
-use Rattle.gaffreel.proofs.volumes.StateBytes.{encode-decode}
+use Rattle.buffers.specs.VolumeState.{encodeOf, decodeOf, encodesState, stateSize, layoutSize}
+use Rattle.buffers.specs.Replies.{done, answerSize, formatReply, writeReply, flushReply, readReply, openReply, queryReply, stepReply, openedBytes, heldBytes}
+use Rattle.gaffreel.specs.Volumes.{formatCall, writeCall, flushCall, readCall, openCall, queryCall, stepCall}
+use Rattle.buffers.proofs.VolumeStateBytes.{encode-decode}
 
 -- ---- format
 

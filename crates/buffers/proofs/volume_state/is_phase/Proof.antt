@@ -1,0 +1,11 @@
+use Rattle.buffers.specs.VolumeState.{isPhase}
+use mathlib.Core.Path.{refl}
+use Rattle.buffers.proofs.volume_state.is_phase.Statement.{statement}
+use Rattle.buffers.proofs.volume_state.is_phase.Tie as tie
+
+returns : tie.Need-returns
+unfolding isPhase
+returns c = refl
+
+pub is-phase-spec : {M : Type 1} → statement M
+is-phase-spec = tie.close (tie.spec returns)

@@ -1,2 +1,0 @@
--- Laws that more than one part cites.
-mod Numbers
