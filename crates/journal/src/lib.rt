@@ -1,8 +1,8 @@
 // The volume's parts as the calls work on them: layout, superblock, sections and journal. Each file has the name of the model's specification whose
 // definitions its functions give.
 //
-// These are functions for the crates of this repository. The calls of crate volume test loans and layout once; so a function here may have a
-// `requires`, and every caller shows it.
+// These are functions for the crates of this repository. The calls of crates setup and volume test loans and layout once; so a function here may have
+// a `requires`, and every caller shows it.
 pub mod journal;
 pub mod layout;
 pub mod section;

@@ -42,7 +42,7 @@ use Rattle.journal.proofs.Entries.{metadata-high, entry-end}
 use Rattle.journal.proofs.Lookups.{scan-kept, located-kept}
 use Rattle.journal.proofs.Sizes.{width-high, section-inside}
 use Rattle.volume.specs.Results.{Leaves, advanced, stepAdded}
-use Rattle.volume.proofs.Sound.{state-layout, fit-room, volume-below}
+use Rattle.sound.proofs.Sound.{state-layout, fit-room, volume-below}
 use Rattle.volume.proofs.Steps.{scan-total, in-phase}
 
 -- ---- one step more

@@ -38,7 +38,7 @@ use Rattle.journal.specs.declared.Location.{Location}
 use Rattle.journal.specs.declared.Scan.{Scan}
 use Rattle.journal.specs.Scan.{scanOf, Locates}
 use Rattle.volume.specs.Results.{Leaves, entryWith}
-use Rattle.volume.proofs.Sound.{volume-replay}
+use Rattle.sound.proofs.Sound.{volume-replay}
 
 -- ---- an entry brought home
 

@@ -5,7 +5,6 @@
 -- stepAdded a x            : what advance hands back of the steps that a tells of and the step x more
 -- Leaves v o r v′ st′      : a step on the volume v handed back r and left the volume v′ and the staging loan st′, as its result o says
 -- entryWith n b t          : the entry for sector n with the bytes b and the tag t
--- checkOf x                : what the check of entries hands back for the verdict x
 -- newestPlace t st d c n   : the place of the last of the first c staged entries for sector n; d where there is none
 use Prim.Native.Nat.{ℕ, zero, suc, _+_}
 use mathlib.Core.Bool.{true}
@@ -14,7 +13,6 @@ use lib.Dec.{eqb}
 use Rattle.octets.specs.Choice.{pick}
 use mathlib.Core.Path.{_≡_}
 use Rattle.model.specs.Section.{Entry, entryOf}
-use Rattle.model.specs.State.{Verdict, passed, refused}
 use Rattle.model.specs.Store.{afterEffect}
 use Rattle.model.specs.Step.{StepResult}
 use Rattle.model.specs.World.{stepAcknowledges}
@@ -23,8 +21,6 @@ use Rattle.model.specs.declared.Advanced.{Advanced}
 use Rattle.model.specs.declared.Stepped.{Stepped}
 use Rattle.model.specs.declared.Written.{Written}
 use Rattle.model.specs.Write.{WriteResult}
-use Rattle.volume.specs.declared.open.Check.{Check}
-use Rattle.volume.specs.declared.open.Check.the-variants.{Passed, Refused}
 
 abbrev pub written : Written → List ℕ → WriteResult
 written w st = record { answer = w .answer; state = w .state; staging = st }
@@ -48,10 +44,6 @@ pub record Leaves (v : List ℕ) (o : StepResult) (r : Stepped) (v′ st′ : Li
 
 abbrev pub entryWith : ℕ → List ℕ → List ℕ → Entry
 entryWith n b t = record { sector = n; bytes = b; tag = t }
-
-abbrev pub checkOf : Verdict → Check
-checkOf passed = Passed
-checkOf (refused r) = Refused r
 
 abbrev pub newestPlace : ℕ → List ℕ → ℕ → ℕ → ℕ → ℕ
 newestPlace t st d zero n = d

@@ -1,6 +1,5 @@
 // Advance: so many steps, one after the other; the model's specs/Advance.antt. A recovery scans the journal once for all of its steps, and goes from
 // each store straight to the next.
-use crate::state;
 use crate::step;
 use journal::Scan;
 use journal::journal as sections;
@@ -11,6 +10,7 @@ use model::Says;
 use model::State;
 use model::StepAnswer;
 use model::Stepped;
+use sound::state;
 ghost use mathlib.Core.Bool.{true, false, _&&_};
 ghost use mathlib.Core.List.{List};
 ghost use mathlib.Core.Path.{_≡_};

@@ -1,11 +1,11 @@
 // Flush: document 01, "Working a volume"; the model's specs/Flush.antt.
-use crate::state;
-use crate::state::LAST_ID;
 use model::FlushAnswer;
 use model::Flushed;
 use model::Phase;
 use model::Refusal;
 use model::State;
+use sound::state;
+use sound::state::LAST_ID;
 ghost use mathlib.Core.Path.{_≡_};
 ghost use Rattle.model.specs.declared.Refusal.{Refusal};
 ghost use Rattle.model.specs.State.{refused};

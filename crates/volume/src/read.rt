@@ -1,6 +1,4 @@
 // Read: document 01, "Working a volume"; the model's specs/Read.antt.
-use crate::state;
-use crate::tag;
 use journal::layout;
 use journal::layout::SECTOR_SIZE;
 use journal::section;
@@ -8,6 +6,8 @@ use model::Layout;
 use model::ReadAnswer;
 use model::Refusal;
 use model::State;
+use sound::state;
+use sound::tag;
 ghost use mathlib.Core.Bool.{true};
 ghost use mathlib.Core.Path.{_≡_};
 ghost use Prim.Native.Nat.{_*_, _≤_, _<_};

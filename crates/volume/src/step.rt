@@ -1,5 +1,4 @@
 // Step: document 01, "Working a volume"; the model's specs/Step.antt.
-use crate::state;
 use journal::Location;
 use journal::journal as sections;
 use journal::layout;
@@ -16,6 +15,7 @@ use model::Says;
 use model::State;
 use model::StepAnswer;
 use model::Stepped;
+use sound::state;
 ghost use mathlib.Core.Bool.{true, _&&_};
 ghost use mathlib.Core.List.{List};
 ghost use mathlib.Core.Path.{_≡_};

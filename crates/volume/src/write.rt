@@ -1,6 +1,4 @@
 // Write: document 01, "Working a volume"; the model's specs/Write.antt.
-use crate::state;
-use crate::tag;
 use journal::layout;
 use journal::layout::SECTOR_SIZE;
 use journal::section;
@@ -8,6 +6,8 @@ use model::Refusal;
 use model::State;
 use model::WriteAnswer;
 use model::Written;
+use sound::state;
+use sound::tag;
 ghost use mathlib.Core.Path.{_≡_};
 ghost use Rattle.model.specs.Tag.{tagOf};
 ghost use Rattle.model.specs.Write.{writeOf};

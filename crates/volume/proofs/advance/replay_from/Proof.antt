@@ -6,7 +6,7 @@ use borrow.Author.Needs.{needs}
 use Rattle.model.specs.Advance.{advanceFrom}
 use Rattle.volume.specs.Results.{advanced}
 use Rattle.journal.proofs.Lookups.{replay-high}
-use Rattle.volume.proofs.Sound.{state-layout, fit-room}
+use Rattle.sound.proofs.Sound.{state-layout, fit-room}
 use Rattle.volume.proofs.Steps.{scan-total}
 use Rattle.volume.proofs.Advancing.{Underway, begins, ready, stops, ends, stores-next, continues, again}
 use Rattle.volume.proofs.advance.replay_from.Statement.{statement}

@@ -6,7 +6,7 @@ use Rattle.model.specs.Section.{entryOf}
 use Rattle.model.specs.Journal.{sectionOf}
 use Rattle.model.proofs.Plans.{home-two}
 use Rattle.journal.proofs.Sizes.{width-high}
-use Rattle.volume.proofs.Sound.{state-layout, volume-room, volume-replay}
+use Rattle.sound.proofs.Sound.{state-layout, volume-room, volume-replay}
 use Rattle.volume.proofs.Steps.{journal-range, next-place, last-place}
 use borrow.Author.Needs.{needs}
 use Rattle.volume.proofs.step.recover_step.Statement.{statement}

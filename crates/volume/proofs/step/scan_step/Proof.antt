@@ -1,5 +1,5 @@
 use native.Mathlib.Omega.{arith}
-use Rattle.volume.proofs.Sound.{state-layout, fit-room, volume-below, volume-past}
+use Rattle.sound.proofs.Sound.{state-layout, fit-room, volume-below, volume-past}
 use Rattle.volume.proofs.Steps.{scan-total, wrong-volume}
 use borrow.Author.Needs.{needs}
 use Rattle.volume.proofs.step.scan_step.Statement.{statement}

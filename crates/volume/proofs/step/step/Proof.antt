@@ -1,7 +1,7 @@
 use mathlib.Core.Path.{refl, sym, _∙_}
 use borrow.Author.Tests.{not-true, not-false}
 use Rattle.model.specs.declared.Phase.the-variants.{Filling}
-use Rattle.volume.proofs.Sound.{state-layout, state-id, state-committing, staging-length, fit-room, volume-unfit, volume-in}
+use Rattle.sound.proofs.Sound.{state-layout, state-id, state-committing, staging-length, fit-room, volume-unfit, volume-in}
 use Rattle.volume.proofs.Steps.{unsound, wrong-volume, wrong-staging, runs, idles}
 use borrow.Author.Needs.{needs}
 use Rattle.volume.proofs.step.step.Statement.{statement}

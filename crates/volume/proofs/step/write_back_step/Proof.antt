@@ -1,6 +1,6 @@
 use native.Mathlib.Omega.{arith}
 use Rattle.journal.proofs.Sizes.{width-high}
-use Rattle.volume.proofs.Sound.{state-layout, state-writing-back, staging-length, volume-room}
+use Rattle.sound.proofs.Sound.{state-layout, state-writing-back, staging-length, volume-room}
 use Rattle.volume.proofs.Steps.{staged-range, same-entry, next-entry, last-entry}
 use borrow.Author.Needs.{needs}
 use Rattle.volume.proofs.step.write_back_step.Statement.{statement}

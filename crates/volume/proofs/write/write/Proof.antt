@@ -7,7 +7,7 @@ use borrow.Author.Tests.{not-true, not-false}
 use borrow.Author.Needs.{needs}
 use Rattle.model.specs.Section.{putEntry}
 use Rattle.journal.proofs.Sizes.{width-high}
-use Rattle.volume.proofs.Sound.{state-layout, staging-length}
+use Rattle.sound.proofs.Sound.{state-layout, staging-length}
 use Rattle.model.specs.Tag.{tagOf}
 use Rattle.volume.proofs.Writes.{unsound, wrong-staging, wrong-sector, busy, out-of-range, full, taken}
 use Rattle.volume.proofs.write.write.Statement.{statement}

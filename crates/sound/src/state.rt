@@ -1,0 +1,113 @@
+// What is tested of loans and states: the model's specs/State.antt.
+use journal::layout;
+use journal::layout::SECTOR_SIZE;
+use model::Layout;
+use model::Phase;
+use model::State;
+ghost use mathlib.Core.Bool.{true, _&&_};
+ghost use mathlib.Core.Path.{_≡_};
+ghost use Prim.Native.Nat.{_*_, _≤_};
+ghost use lib.Dec.{leb};
+ghost use lib.ListN.{length};
+ghost use Rattle.model.specs.Layout.{needed, layoutOk};
+ghost use Rattle.model.specs.Journal.{replay};
+ghost use Rattle.model.specs.Store.{storesOf};
+ghost use Rattle.model.specs.State.{placeOk, stateOk, stagingOk, volumeLoanOk, volumeOk, isFilling, isRecovering};
+
+// No commit may be given this id.
+pub const LAST_ID: u64 = 18446744073709551615;
+
+// Whether the place of a phase exists, as far as no volume is needed.
+fn place_ok(g: Layout, count: usize, id: u64, p: Phase) -> bool
+    requires { ⌜ layoutOk g ≡ true ⌝ }
+    ensures { λ r. ⌜ r ≡ placeOk g count id p ⌝ }
+{
+    let size = layout::section_size(g.width);
+    match p {
+        Phase::Filling => true,
+        Phase::Committing(j) => (j < size) & ((0 < count) & (id < LAST_ID)),
+        Phase::WritingBack(i, h) => (i < count) & (h < 2),
+        Phase::Recovering(_) => count == 0,
+    }
+}
+
+// Whether a state is sound, as far as no volume is needed.
+pub fn state_ok(s: State) -> bool
+    ensures { λ r. ⌜ r ≡ stateOk s ⌝ }
+{
+    let g = s.layout;
+    if !layout::layout_ok(g) {
+        return false;
+    }
+    let most = layout::entry_count(g.width);
+    let p = s.phase;
+    let place = place_ok(g, s.count, s.id, p);
+    (s.count <= most) & ((s.id != 0) & place)
+}
+
+// Whether a staging loan is as long as a section.
+pub fn staging_ok(g: Layout, st: &[u8]) -> bool
+    requires { ⌜ layoutOk g ≡ true ⌝ }
+    ensures { λ r. ⌜ r ≡ stagingOk g (now (st .entry)) ⌝ }
+{
+    st.len() == layout::section_size(g.width) * SECTOR_SIZE
+}
+
+pub fn is_filling(p: Phase) -> bool
+    ensures { λ r. ⌜ r ≡ isFilling p ⌝ }
+{
+    match p {
+        Phase::Filling => true,
+        Phase::Committing(_) => false,
+        Phase::WritingBack(_, _) => false,
+        Phase::Recovering(_) => false,
+    }
+}
+
+pub fn is_recovering(p: Phase) -> bool
+    ensures { λ r. ⌜ r ≡ isRecovering p ⌝ }
+{
+    match p {
+        Phase::Filling => false,
+        Phase::Committing(_) => false,
+        Phase::WritingBack(_, _) => false,
+        Phase::Recovering(_) => true,
+    }
+}
+
+// Whether v is a volume that the layout fits.
+pub fn layout_fits(g: Layout, v: &[u8]) -> bool
+    requires { ⌜ layoutOk g ≡ true ⌝ }
+    ensures { λ r. ⌜ r ≡ volumeLoanOk (now (v .entry)) && leb (needed g * 512) (length (now (v .entry))) ⌝ }
+{
+    let loan = layout::volume_loan_ok(v);
+    loan & (layout::needed(g) * SECTOR_SIZE <= v.len())
+}
+
+// Whether v is a volume that the layout fits, and on which the place of a sound state exists.
+pub fn volume_ok(s: State, v: &[u8]) -> bool
+    requires { ⌜ stateOk s ≡ true ⌝ }
+    ensures { λ r. ⌜ r ≡ volumeOk s (now (v .entry)) ⌝ }
+{
+    let g = s.layout;
+    if !layout_fits(g, v) {
+        return false;
+    }
+    let p = s.phase;
+    match p {
+        Phase::Filling => true,
+        Phase::Committing(_) => true,
+        Phase::WritingBack(_, _) => true,
+        Phase::Recovering(k) => k < replay_stores(v, g),
+    }
+}
+
+// How many stores a replay of the volume's journal makes.
+fn replay_stores(v: &[u8], g: Layout) -> usize
+    requires { ⌜ (layoutOk g ≡ true) × (needed g * 512 ≤ length (now v)) ⌝ }
+    ensures { λ r. ⌜ r ≡ storesOf g (replay g (now (v .entry))) ⌝ }
+{
+    let found = journal::journal::scan(v, g);
+    let stores = found.stores;
+    stores.total
+}
