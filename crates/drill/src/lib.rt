@@ -5,9 +5,8 @@
 use model::FormatAnswer;
 use model::Layout;
 use model::OpenAnswer;
-use model::Says;
 use model::State;
-use model::StepAnswer;
+use volume::SECTOR_SIZE;
 ghost use Prim.Native.Nat.{ℕ};
 ghost use mathlib.Core.Bool.{false};
 ghost use mathlib.Core.List.{List};
@@ -37,8 +36,6 @@ pub const READ: u8 = 5;
 
 // The bytes of an event.
 pub const EVENT_SIZE: usize = 4;
-
-const SECTOR_SIZE: usize = 512;
 
 // What is live: nothing at first and after a cut, then the state that the last call handed back.
 pub enum Live {
@@ -204,19 +201,6 @@ fn step_event(s: State, v: &mut [u8], st: &mut [u8]) -> Moment
     let answer = stepped.answer;
     Moment {
         live: Live::On(next),
-        settled: says_filling(answer),
-    }
-}
-
-fn says_filling(a: StepAnswer) -> bool
-    ensures { λ r. ⌜ r ≡ lists.stepSettles a ⌝ }
-{
-    match a {
-        StepAnswer::Stepped(_, says) => match says {
-            Says::Nothing => false,
-            Says::Acknowledged => false,
-            Says::Filling => true,
-        },
-        StepAnswer::Refused(_) => false,
+        settled: model::says_filling(answer),
     }
 }

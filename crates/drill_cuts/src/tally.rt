@@ -5,8 +5,7 @@ use drill::Moment;
 use libc::STDOUT_FILENO;
 use model::ReadAnswer;
 use model::State;
-
-const SECTOR_SIZE: usize = 512;
+use volume::SECTOR_SIZE;
 
 pub(crate) struct Tally {
     pub(crate) drills: usize,

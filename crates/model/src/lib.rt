@@ -4,6 +4,7 @@
 // these definitions is in the crates above.
 ghost use mathlib.Core.Path.{_≡_};
 ghost use Rattle.model.specs.Refusal.{numberOf};
+ghost use Rattle.model.specs.World.{stepAcknowledges, stepSettles};
 
 // Where everything lies on a volume. Any numbers may be handed in; `layoutOk` of specs/Layout.antt says which are in range.
 pub struct Layout {
@@ -135,6 +136,34 @@ pub enum Says {
 pub enum StepAnswer {
     Stepped(Done, Says),
     Refused(Refusal),
+}
+
+// Whether a step acknowledged the batch.
+pub fn acknowledges(a: StepAnswer) -> bool
+    ensures { λ r. ⌜ r ≡ stepAcknowledges a ⌝ }
+{
+    match a {
+        StepAnswer::Stepped(_, says) => match says {
+            Says::Nothing => false,
+            Says::Acknowledged => true,
+            Says::Filling => false,
+        },
+        StepAnswer::Refused(_) => false,
+    }
+}
+
+// Whether a step said that the volume is filling.
+pub fn says_filling(a: StepAnswer) -> bool
+    ensures { λ r. ⌜ r ≡ stepSettles a ⌝ }
+{
+    match a {
+        StepAnswer::Stepped(_, says) => match says {
+            Says::Nothing => false,
+            Says::Acknowledged => false,
+            Says::Filling => true,
+        },
+        StepAnswer::Refused(_) => false,
+    }
 }
 
 pub enum QueryAnswer {

@@ -94,10 +94,12 @@ fn put_tail(v: &mut [u8], g: Layout)
 pub fn format(v: &mut [u8], g: Layout) -> FormatAnswer
     ensures { λ r. ⌜ record { answer = r; volume = now (v .exit) } ≡ formatOf (tagOf (g .width)) g (now (v .entry)) ⌝ }
 {
-    if !layout::volume_loan_ok(v) {
+    let loan_ok = layout::volume_loan_ok(v);
+    let in_range = layout::layout_ok(g);
+    if !loan_ok {
         return FormatAnswer::Refused(Refusal::Malformed);
     }
-    if !layout::layout_ok(g) {
+    if !in_range {
         return FormatAnswer::Refused(Refusal::Parameter);
     }
     let needed = layout::needed(g);

@@ -99,7 +99,7 @@ module _ (t i : ℕ) (small : t ≤ 32) (l : i < entryCount t) (sec : List ℕ) 
   sector-length : (j : ℕ) → j < sectionSize t → length (sectorAt sec j) ≡ 512
   sector-length j h = length-part sec (j * 512) 512 (omega arith)
 
-  bytes-length : length (entryOf t sec i .bytes) ≡ 512
+  pub bytes-length : length (entryOf t sec i .bytes) ≡ 512
   unfolding entryOf
   bytes-length =
       let low : length (take 504 (sectorAt sec (8 + i))) ≡ 504 = length-take-le 504 (sectorAt sec (8 + i)) (omega (arith, sector-length (8 + i) (omega arith))) in
@@ -107,7 +107,7 @@ module _ (t i : ℕ) (small : t ≤ 32) (l : i < entryCount t) (sec : List ℕ) 
       length-part (sectorAt sec (metadataOf t i)) (entryOffset t i + 8) 8 (omega (arith, entry-end t i small l, sector-length (metadataOf t i) (omega (arith, metadata-high t i small l)))) in
       length-append (take 504 (sectorAt sec (8 + i))) (part (sectorAt sec (metadataOf t i)) (entryOffset t i + 8) 8) ∙ omega arith
 
-  tag-length : length (entryOf t sec i .tag) ≡ t
+  pub tag-length : length (entryOf t sec i .tag) ≡ t
   unfolding entryOf
   tag-length =
       length-part (sectorAt sec (metadataOf t i)) (entryOffset t i + 16) t (omega (arith, entry-end t i small l, sector-length (metadataOf t i) (omega (arith, metadata-high t i small l))))

@@ -1,29 +1,21 @@
--- What a call handed back and left in its loans, as one of the model's results.
+-- What a step or an advance handed back and left in its loans, as one of the model's results.
 --
--- written w st             : write's, with the staging loan afterwards
 -- advanced r v st          : advance's, with the volume and the staging loan afterwards
 -- stepAdded a x            : what advance hands back of the steps that a tells of and the step x more
 -- Leaves v o r v′ st′      : a step on the volume v handed back r and left the volume v′ and the staging loan st′, as its result o says
 -- entryWith n b t          : the entry for sector n with the bytes b and the tag t
--- newestPlace t st d c n   : the place of the last of the first c staged entries for sector n; d where there is none
-use Prim.Native.Nat.{ℕ, zero, suc, _+_}
+use Prim.Native.Nat.{ℕ, _+_}
 use mathlib.Core.Bool.{true}
 use mathlib.Core.List.{List}
-use lib.Dec.{eqb}
 use Rattle.octets.specs.Choice.{pick}
 use mathlib.Core.Path.{_≡_}
-use Rattle.model.specs.Section.{Entry, entryOf}
+use Rattle.model.specs.Section.{Entry}
 use Rattle.model.specs.Store.{afterEffect}
 use Rattle.model.specs.Step.{StepResult}
 use Rattle.model.specs.World.{stepAcknowledges}
 use Rattle.model.specs.Advance.{AdvanceResult, storesIn}
 use Rattle.model.specs.declared.Advanced.{Advanced}
 use Rattle.model.specs.declared.Stepped.{Stepped}
-use Rattle.model.specs.declared.Written.{Written}
-use Rattle.model.specs.Write.{WriteResult}
-
-abbrev pub written : Written → List ℕ → WriteResult
-written w st = record { answer = w .answer; state = w .state; staging = st }
 
 abbrev pub advanced : Advanced → List ℕ → List ℕ → AdvanceResult
 advanced r v st = record { answer = r .answer; stores = r .stores; acknowledged = r .acknowledged; state = r .state; volume = v; staging = st }
@@ -44,7 +36,3 @@ pub record Leaves (v : List ℕ) (o : StepResult) (r : Stepped) (v′ st′ : Li
 
 abbrev pub entryWith : ℕ → List ℕ → List ℕ → Entry
 entryWith n b t = record { sector = n; bytes = b; tag = t }
-
-abbrev pub newestPlace : ℕ → List ℕ → ℕ → ℕ → ℕ → ℕ
-newestPlace t st d zero n = d
-newestPlace t st d (suc c) n = pick (eqb (entryOf t st c .sector) n) c (newestPlace t st d c n)

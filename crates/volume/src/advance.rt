@@ -20,7 +20,6 @@ ghost use lib.ListN.{length};
 ghost use Rattle.model.specs.Layout.{needed};
 ghost use Rattle.model.specs.State.{volumeLoanOk, stateOk, stagingOk};
 ghost use Rattle.model.specs.Advance.{storesIn, advanceFrom, advanceOf};
-ghost use Rattle.model.specs.World.{stepAcknowledges};
 ghost use Rattle.journal.specs.Scan.{scanOf};
 ghost use Rattle.volume.specs.Results.{advanced, stepAdded};
 
@@ -49,20 +48,6 @@ fn stores_in(a: StepAnswer) -> usize
     }
 }
 
-// Whether a step acknowledged the batch.
-fn acknowledges(a: StepAnswer) -> bool
-    ensures { λ r. ⌜ r ≡ stepAcknowledges a ⌝ }
-{
-    match a {
-        StepAnswer::Stepped(_, says) => match says {
-            Says::Nothing => false,
-            Says::Acknowledged => true,
-            Says::Filling => false,
-        },
-        StepAnswer::Refused(_) => false,
-    }
-}
-
 // What was done before, and one step more.
 fn one_more(last: Advanced, stepped: Stepped) -> Advanced
     requires { ⌜ last .stores < 2 ^ 64 - 1 ⌝ }
@@ -70,7 +55,7 @@ fn one_more(last: Advanced, stepped: Stepped) -> Advanced
 {
     let answer = stepped.answer;
     let count = stores_in(answer);
-    let said = acknowledges(answer);
+    let said = model::acknowledges(answer);
     let state = stepped.state;
     Advanced {
         answer: answer,

@@ -5,12 +5,10 @@ use model::Layout;
 use model::OpenAnswer;
 use model::Phase;
 use model::ReadAnswer;
-use model::Says;
 use model::State;
 use model::StepAnswer;
 use model::Written;
-
-const SECTOR_SIZE: usize = 512;
+use volume::SECTOR_SIZE;
 
 // The logical sector that is written and read.
 const SECTOR: usize = 5;
@@ -97,7 +95,7 @@ pub(crate) fn commit(s: State, v: &mut [u8], st: &mut [u8], printed: bool) -> Co
         if printed {
             print_store(answer);
         }
-        if acknowledges(answer) {
+        if model::acknowledges(answer) {
             acknowledged = stores;
         }
         if ends(answer) {
@@ -121,25 +119,10 @@ fn print_store(a: StepAnswer) {
     }
 }
 
-fn acknowledges(a: StepAnswer) -> bool {
-    match a {
-        StepAnswer::Stepped(_, says) => match says {
-            Says::Nothing => false,
-            Says::Acknowledged => true,
-            Says::Filling => false,
-        },
-        StepAnswer::Refused(_) => false,
-    }
-}
-
 // Whether no step is to come: the volume is filling, or the step was refused.
 fn ends(a: StepAnswer) -> bool {
     match a {
-        StepAnswer::Stepped(_, says) => match says {
-            Says::Nothing => false,
-            Says::Acknowledged => false,
-            Says::Filling => true,
-        },
+        StepAnswer::Stepped(_, _) => model::says_filling(a),
         StepAnswer::Refused(_) => true,
     }
 }

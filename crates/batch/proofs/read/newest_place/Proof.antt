@@ -3,11 +3,11 @@ use mathlib.Core.Path.{sym, _∙_, ap, refl, _≡_}
 use native.Mathlib.Omega.{arith}
 use lib.ListN.{length}
 use borrow.Author.Needs.{needs}
-use Rattle.volume.specs.Results.{newestPlace}
+use Rattle.batch.specs.Results.{newestPlace}
 use Rattle.model.specs.Layout.{entryCount, sectionSize}
-use Rattle.volume.proofs.Reading.{newest-hit, newest-miss}
-use Rattle.volume.proofs.read.newest_place.Statement.{statement}
-use Rattle.volume.proofs.read.newest_place.Tie as tie
+use Rattle.batch.proofs.Reading.{newest-hit, newest-miss}
+use Rattle.batch.proofs.read.newest_place.Statement.{statement}
+use Rattle.batch.proofs.read.newest_place.Tie as tie
 
 abbrev Inv-loop : tie.InvT-loop
 Inv-loop st t c sector i₀ i = (t ≤ 32) × (c ≤ entryCount t) × (length st ≡ sectionSize t * 512) × (i ≤ c) × (newestPlace t st c c sector ≡ newestPlace t st c i sector)

@@ -3,11 +3,11 @@ use mathlib.Core.Path.{ap, refl, _≡_}
 use native.Mathlib.Omega.{arith}
 use borrow.Author.Needs.{needs}
 use Rattle.octets.proofs.Parts.{length-part}
-use Rattle.volume.proofs.Reading.{fits-is}
+use Rattle.batch.proofs.Reading.{fits-is}
 use Rattle.journal.proofs.Sizes.{width-high, provided-high}
 use Rattle.model.proofs.Addresses.{ranged, data-room, tag-room, tag-inside, tag-sector}
-use Rattle.volume.proofs.read.tag_fits.Statement.{statement}
-use Rattle.volume.proofs.read.tag_fits.Tie as tie
+use Rattle.batch.proofs.read.tag_fits.Statement.{statement}
+use Rattle.batch.proofs.read.tag_fits.Tie as tie
 
 data-at-requires : tie.Need-data-at-requires
 data-at-requires c κs = (c .before .pre .0, omega (arith, provided-high (c .before .args .g) (c .before .pre .0)))

@@ -1,9 +1,9 @@
 use mathlib.Core.Path.{sym, _∙_}
 use borrow.Author.Tests.{not-true, not-false}
 use borrow.Author.Needs.{needs}
-use Rattle.volume.proofs.Flushes.{unsound, busy, empty, exhausted, begun}
-use Rattle.volume.proofs.flush.flush.Statement.{statement}
-use Rattle.volume.proofs.flush.flush.Tie as tie
+use Rattle.batch.proofs.Flushes.{unsound, busy, empty, exhausted, begun}
+use Rattle.batch.proofs.flush.flush.Statement.{statement}
+use Rattle.batch.proofs.flush.flush.Tie as tie
 
 returns : tie.Need-returns
 returns c = unsound (c .before .before .before .args .s) (c .refuse .result) (c .refuse .ensures) (sym (c .before .before .state-ok .ensures) ∙ not-true _ (c .before .if1 .taken))

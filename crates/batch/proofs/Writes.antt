@@ -16,7 +16,7 @@ use Rattle.model.specs.Section.{putEntry}
 use Rattle.model.specs.Tag.{Tag}
 use Rattle.model.specs.State.{refused, stateOk, stagingOk, isFilling}
 use Rattle.model.specs.Write.{newEntry, writeBy, writeOf}
-use Rattle.volume.specs.Results.{written}
+use Rattle.batch.specs.Results.{written}
 
 module _ (tag : Tag) (s : State) (st : List ℕ) (n : ℕ) (b : List ℕ) where
   abbrev Refuses : Written → Refusal → Type 0

@@ -11,7 +11,7 @@ use sound::tag;
 ghost use mathlib.Core.Path.{_≡_};
 ghost use Rattle.model.specs.Tag.{tagOf};
 ghost use Rattle.model.specs.Write.{writeOf};
-ghost use Rattle.volume.specs.Results.{written};
+ghost use Rattle.batch.specs.Results.{written};
 
 fn refuse(s: State, r: Refusal) -> Written
     ensures { λ w. ⌜ w ≡ record { answer = WriteAnswer.Refused r; state = s } ⌝ }

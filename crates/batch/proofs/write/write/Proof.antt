@@ -9,9 +9,9 @@ use Rattle.model.specs.Section.{putEntry}
 use Rattle.journal.proofs.Sizes.{width-high}
 use Rattle.sound.proofs.Sound.{state-layout, staging-length}
 use Rattle.model.specs.Tag.{tagOf}
-use Rattle.volume.proofs.Writes.{unsound, wrong-staging, wrong-sector, busy, out-of-range, full, taken}
-use Rattle.volume.proofs.write.write.Statement.{statement}
-use Rattle.volume.proofs.write.write.Tie as tie
+use Rattle.batch.proofs.Writes.{unsound, wrong-staging, wrong-sector, busy, out-of-range, full, taken}
+use Rattle.batch.proofs.write.write.Statement.{statement}
+use Rattle.batch.proofs.write.write.Tie as tie
 
 returns : tie.Need-returns
 returns c = unsound (tagOf (c .before .before .before .before .before .args .s .layout .width)) (c .before .before .before .before .before .args .s) (c .before .before .before .before .before .args .st .now) (c .before .before .before .before .before .args .sector) (c .before .before .before .before .before .args .bytes .now) (c .refuse .result) (c .refuse .ensures) (sym (c .before .before .state-ok .ensures) ∙ not-true _ (c .before .if1 .taken))

@@ -23,7 +23,7 @@ use Rattle.model.specs.Tag.{Tag, tagOf, tagAt}
 use Rattle.model.specs.State.{stateOk, volumeOk, stagingOk, isRecovering}
 use Rattle.model.specs.Read.{newest, staged, readOf}
 use Rattle.model.proofs.Replays.{Which, isTrue, isFalse, which}
-use Rattle.volume.specs.Results.{newestPlace}
+use Rattle.batch.specs.Results.{newestPlace}
 
 pub newest-hit : (t d n i : ℕ) (st : List ℕ) → 0 < i → entryOf t st (i - 1) .sector ≡ n → i - 1 ≡ newestPlace t st d i n
 newest-hit t d n zero st l e = absurd (omega arith)

@@ -17,7 +17,7 @@ ghost use Rattle.octets.specs.Sectors.{sectorAt};
 ghost use Rattle.model.specs.Layout.{entryCount, sectionSize, dataAt, needed, layoutOk};
 ghost use Rattle.model.specs.Tag.{tagOf, tagAt};
 ghost use Rattle.model.specs.Read.{readOf};
-ghost use Rattle.volume.specs.Results.{newestPlace};
+ghost use Rattle.batch.specs.Results.{newestPlace};
 
 // The place of the newest of the first c staged entries for a sector; c where there is none.
 fn newest_place(st: &[u8], t: usize, c: usize, sector: usize) -> usize
@@ -63,10 +63,12 @@ pub fn read(s: State, v: &[u8], st: &[u8], sector: usize, bytes: &mut [u8]) -> R
         return ReadAnswer::Refused(Refusal::Malformed);
     }
     let p = s.phase;
-    if state::is_recovering(p) {
+    let recovering = state::is_recovering(p);
+    let provided = g.provided;
+    if recovering {
         return ReadAnswer::Refused(Refusal::NotNow);
     }
-    if g.provided <= sector {
+    if provided <= sector {
         return ReadAnswer::Refused(Refusal::Range);
     }
     let count = s.count;
