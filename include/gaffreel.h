@@ -18,55 +18,75 @@
  * outside, memcpy, memmove and memset; it has no writable data, and takes no memory but the stack. So it links into a
  * firmware without a C library, and calls on different buffers may run at the same time.
  *
- * SHA-256 of a message that comes in two pieces:
+ * Examples, each a whole program. SHA-256 of a message that comes in two pieces:
  *
- *     uint8_t state[GAFFREEL_SHA256_STATE_SIZE];
- *     uint8_t digest[GAFFREEL_SHA256_DIGEST_SIZE];
+ *     #include "gaffreel.h"
  *
- *     if (gaffreel_sha256_new(state, sizeof state) != GAFFREEL_DONE
- *         || gaffreel_sha256_update(state, sizeof state, first, first_length) != GAFFREEL_DONE
- *         || gaffreel_sha256_update(state, sizeof state, second, second_length) != GAFFREEL_DONE
- *         || gaffreel_sha256_finish(state, sizeof state, digest, sizeof digest) != GAFFREEL_DONE) {
- *         return refused();
- *     }
+ *     int main(void) {
+ *         static const uint8_t first[] = {'a', 'b'}, second[] = {'c'};
+ *         uint8_t state[GAFFREEL_SHA256_STATE_SIZE];
+ *         uint8_t digest[GAFFREEL_SHA256_DIGEST_SIZE];
  *
- * A volume made, opened and written to. Power may fail between any two steps: the next open finds either the whole batch
- * or nothing of it.
- *
- *     uint8_t state[GAFFREEL_VOLUME_STATE_SIZE];
- *     uint8_t answer[GAFFREEL_VOLUME_ANSWER_SIZE];
- *     uint8_t staging[45056];
- *
- *     if (gaffreel_volume_format(volume, volume_length, 0, 4, 32, 1, 16, answer, sizeof answer) != GAFFREEL_DONE
- *         || gaffreel_volume_open(volume, volume_length, staging, sizeof staging, 0, state, sizeof state, answer,
- *                                 sizeof answer) != GAFFREEL_DONE
- *         || gaffreel_volume_write(state, sizeof state, staging, sizeof staging, 5, bytes, GAFFREEL_VOLUME_SECTOR_SIZE,
- *                                  answer, sizeof answer) != GAFFREEL_DONE
- *         || gaffreel_volume_flush(state, sizeof state, answer, sizeof answer) != GAFFREEL_DONE) {
- *         return refused();
- *     }
- *     do {
- *         if (gaffreel_volume_step(state, sizeof state, volume, volume_length, staging, sizeof staging, answer,
- *                                  sizeof answer) != GAFFREEL_DONE) {
- *             return refused();
+ *         if (gaffreel_sha256_new(state, sizeof state) != GAFFREEL_DONE
+ *             || gaffreel_sha256_update(state, sizeof state, first, sizeof first) != GAFFREEL_DONE
+ *             || gaffreel_sha256_update(state, sizeof state, second, sizeof second) != GAFFREEL_DONE
+ *             || gaffreel_sha256_finish(state, sizeof state, digest, sizeof digest) != GAFFREEL_DONE) {
+ *             return 1;
  *         }
- *         store_sector_of(volume, answer);
- *     } while (answer[16] != GAFFREEL_VOLUME_SAYS_FILLING);
- *
- * The hash tree over an image of `count` blocks, and a block of it verified:
- *
- *     size_t tree_length = gaffreel_tree_length(count);
- *     uint8_t *tree = memory_for(tree_length);
- *     uint8_t root[GAFFREEL_TREE_DIGEST_SIZE];
- *     uint8_t level[GAFFREEL_TREE_LEVEL_SIZE];
- *
- *     if (gaffreel_tree_build(count, salt, salt_length, image, image_length, tree, tree_length, root, sizeof root)
- *         != GAFFREEL_DONE) {
- *         return refused();
+ *         return digest[0] == 0xba && digest[31] == 0xad ? 0 : 1;
  *     }
- *     if (gaffreel_tree_verify(block, GAFFREEL_TREE_BLOCK_SIZE, index, tree, tree_length, count, salt, salt_length, root,
- *                              sizeof root, level, sizeof level) != GAFFREEL_DONE) {
- *         return refused();
+ *
+ * A volume of 16 sectors made, opened and written to, and what was written read back. Power may fail between any two steps:
+ * the next open finds either the whole batch or nothing of it.
+ *
+ *     #include "gaffreel.h"
+ *
+ *     static uint8_t volume[120 * GAFFREEL_VOLUME_SECTOR_SIZE], staging[88 * GAFFREEL_VOLUME_SECTOR_SIZE];
+ *
+ *     int main(void) {
+ *         uint8_t state[GAFFREEL_VOLUME_STATE_SIZE], answer[GAFFREEL_VOLUME_ANSWER_SIZE];
+ *         uint8_t bytes[GAFFREEL_VOLUME_SECTOR_SIZE] = {1}, found[GAFFREEL_VOLUME_SECTOR_SIZE];
+ *
+ *         if (gaffreel_volume_format(volume, sizeof volume, 0, 4, 32, 1, 16, answer, sizeof answer) != GAFFREEL_DONE
+ *             || gaffreel_volume_open(volume, sizeof volume, staging, sizeof staging, 0, state, sizeof state, answer,
+ *                                     sizeof answer) != GAFFREEL_DONE
+ *             || gaffreel_volume_write(state, sizeof state, staging, sizeof staging, 5, bytes, sizeof bytes, answer,
+ *                                      sizeof answer) != GAFFREEL_DONE
+ *             || gaffreel_volume_flush(state, sizeof state, answer, sizeof answer) != GAFFREEL_DONE) {
+ *             return 1;
+ *         }
+ *         do {
+ *             if (gaffreel_volume_step(state, sizeof state, volume, sizeof volume, staging, sizeof staging, answer,
+ *                                      sizeof answer) != GAFFREEL_DONE) {
+ *                 return 1;
+ *             }
+ *             // The answer names the sector of the volume that is to go to the medium now.
+ *         } while (answer[16] != GAFFREEL_VOLUME_SAYS_FILLING);
+ *         if (gaffreel_volume_read(state, sizeof state, volume, sizeof volume, staging, sizeof staging, 5, found,
+ *                                  sizeof found, answer, sizeof answer) != GAFFREEL_DONE) {
+ *             return 1;
+ *         }
+ *         return found[0] == 1 ? 0 : 1;
+ *     }
+ *
+ * The hash tree over an image of two blocks, and a block of it verified:
+ *
+ *     #include "gaffreel.h"
+ *
+ *     static uint8_t image[2 * GAFFREEL_TREE_BLOCK_SIZE], tree[GAFFREEL_TREE_BLOCK_SIZE];
+ *
+ *     int main(void) {
+ *         static const uint8_t salt[] = {1, 2, 3};
+ *         uint8_t root[GAFFREEL_TREE_DIGEST_SIZE], level[GAFFREEL_TREE_LEVEL_SIZE];
+ *
+ *         if (gaffreel_tree_length(2) != sizeof tree
+ *             || gaffreel_tree_build(2, salt, sizeof salt, image, sizeof image, tree, sizeof tree, root, sizeof root)
+ *                    != GAFFREEL_DONE
+ *             || gaffreel_tree_verify(image, GAFFREEL_TREE_BLOCK_SIZE, 0, tree, sizeof tree, 2, salt, sizeof salt, root,
+ *                                     sizeof root, level, sizeof level) != GAFFREEL_DONE) {
+ *             return 1;
+ *         }
+ *         return 0;
  *     }
  */
 #ifndef GAFFREEL_H
@@ -188,9 +208,9 @@ uint32_t gaffreel_sha256_finish(const uint8_t *state, size_t state_length, uint8
 
 /*
  * The length of an answer, in bytes: five numbers, at 0, 8, 16, 24 and 32. After a refusal: how many values are also
- * returned, the first, the second, 0, 0. After a call that was carried out, what the call says below; numbers that it does
- * not name are 0. An answer's buffer of this length is written by every call, but for a query whose layout's buffer has a
- * wrong length.
+ * returned, the first, the second, 0, 0; in place of the last two gaffreel_volume_advance has its counts. After a call that
+ * was carried out, what the call says below; numbers that it does not name are 0. An answer's buffer of this length is
+ * written by every call.
  */
 #define GAFFREEL_VOLUME_ANSWER_SIZE 40
 
@@ -233,8 +253,8 @@ uint32_t gaffreel_volume_format(uint8_t *volume, size_t volume_length, size_t re
  * Answer: the bytes that staging must have.
  *
  * Refused, in this order, with
- *   - GAFFREEL_LENGTH_OR_LIMIT where layout_length is not GAFFREEL_VOLUME_LAYOUT_SIZE, answer_length is not
- *     GAFFREEL_VOLUME_ANSWER_SIZE, or the volume is not whole sectors or has more than 65,536;
+ *   - GAFFREEL_LENGTH_OR_LIMIT where answer_length is not GAFFREEL_VOLUME_ANSWER_SIZE, layout_length is not
+ *     GAFFREEL_VOLUME_LAYOUT_SIZE, or the volume is not whole sectors or has more than 65,536;
  *   - GAFFREEL_OUT_OF_RANGE where reserved is more than 64;
  *   - GAFFREEL_SHORT where the volume has no room for a superblock there;
  *   - GAFFREEL_SUPERBLOCK where the superblock is zero;
@@ -295,11 +315,11 @@ uint32_t gaffreel_volume_step(uint8_t *state, size_t state_length, uint8_t *volu
 /*
  * Makes so many steps, one after the other, as that many calls of gaffreel_volume_step would; in a recovery the journal is
  * scanned once for all of them. Once the volume is filling or a step is refused, the steps that are left change nothing.
- * Answer: the three numbers of the last step (0 where none was asked); how many stores were made; 1 where a step said
- * acknowledged, else 0.
+ * Answer: the three numbers of the last step (0 where none was asked); how many stores were made, at 24; 1 where a step said
+ * acknowledged, else 0, at 32.
  *
- * Refused as gaffreel_volume_step is, where the last step is. Steps before it may have been carried out, and are not
- * counted in the answer; a phase that was GAFFREEL_VOLUME_COMMITTING and no longer is shows that the batch was acknowledged.
+ * Refused as gaffreel_volume_step is, where the last step is. Steps before it may have been carried out: the answer has, at 24
+ * and 32, how many stores they made and whether one said acknowledged, as where no step is refused.
  */
 uint32_t gaffreel_volume_advance(uint8_t *state, size_t state_length, uint8_t *volume, size_t volume_length,
                                  uint8_t *staging, size_t staging_length, size_t steps, uint8_t *answer,

@@ -23,7 +23,9 @@ enum {
     DATA_AT = 109,
     TAG_AT = 96,
     COMMIT_STORES = 88,
-    STORES = 90
+    STORES = 90,
+    /* Where the second entry's logical sector lies in staging. */
+    SECOND_ENTRY = 48
 };
 
 static uint8_t volume[VOLUME], staging[STAGING], state[STATE], answer[ANSWER], layout[LAYOUT], bytes[SECTOR];
@@ -42,6 +44,12 @@ static void assert_answer(uint64_t first, uint64_t second, uint64_t third) {
     assert(number_at(answer, 0) == first);
     assert(number_at(answer, 8) == second);
     assert(number_at(answer, 16) == third);
+}
+
+/* How many stores an advance made, and whether a step of it said acknowledged. */
+static void assert_counts(uint64_t stores, uint64_t acknowledged) {
+    assert(number_at(answer, 24) == stores);
+    assert(number_at(answer, 32) == acknowledged);
 }
 
 static uint32_t format(void) {
@@ -149,15 +157,14 @@ static void test_cuts(void) {
         assert(write_sector(WRITTEN, 1) == GAFFREEL_DONE);
         assert(flush() == GAFFREEL_DONE);
         assert(advance(stores) == GAFFREEL_DONE);
-        assert(number_at(answer, 24) == stores);
-        assert(number_at(answer, 32) == (stores < COMMIT_STORES ? 0 : 1));
+        assert_counts(stores, stores < COMMIT_STORES ? 0 : 1);
 
         memset(state, MARK, STATE);
         memset(staging, MARK, STAGING);
         assert(open_volume() == GAFFREEL_DONE);
         assert_answer(replayed, 0, 0);
         assert(advance(replayed) == GAFFREEL_DONE);
-        assert(number_at(answer, 24) == replayed);
+        assert_counts(replayed, 0);
         assert_reads(WRITTEN, stores < COMMIT_STORES ? 0 : 1);
         assert_reads(0, 0);
     }
@@ -197,6 +204,28 @@ static void test_refusals(void) {
     assert(write_sector(WRITTEN, 1) == GAFFREEL_NOT_NOW);
 }
 
+/* An advance that is refused at the second entry, since staging was damaged after the flush: the stores before it count. */
+static void test_refused_advance(void) {
+    begin();
+    assert(write_sector(WRITTEN, 1) == GAFFREEL_DONE);
+    assert(write_sector(WRITTEN, 2) == GAFFREEL_DONE);
+    assert(flush() == GAFFREEL_DONE);
+    staging[SECOND_ENTRY] = 16;
+
+    assert(advance(SIZE_MAX) == GAFFREEL_SECTOR_RANGE);
+    assert_answer(1, 1, 0);
+    assert_counts(STORES, 1);
+    assert(number_at(state, 40) == GAFFREEL_VOLUME_WRITING_BACK && number_at(state, 48) == 1);
+    assert_reads(WRITTEN, 1);
+
+    /* Nothing more is stored, and nothing acknowledged anew. */
+    assert(advance(SIZE_MAX) == GAFFREEL_SECTOR_RANGE);
+    assert_answer(1, 1, 0);
+    assert_counts(0, 0);
+    assert(step() == GAFFREEL_SECTOR_RANGE);
+    assert_counts(0, 0);
+}
+
 /* Bytes that are no state, and buffers of a wrong length. */
 static void test_malformed(void) {
     uint8_t before[STATE];
@@ -217,6 +246,11 @@ static void test_malformed(void) {
     memset(answer, MARK, ANSWER);
     assert(gaffreel_volume_query(volume, VOLUME, 0, layout, LAYOUT - 1, answer, ANSWER) == GAFFREEL_LENGTH_OR_LIMIT);
     assert_untouched(layout, LAYOUT);
+    assert_answer(0, 0, 0);
+    assert_counts(0, 0);
+    memset(answer, MARK, ANSWER);
+    assert(gaffreel_volume_query(volume, VOLUME, 0, layout, LAYOUT, answer, ANSWER - 1) == GAFFREEL_LENGTH_OR_LIMIT);
+    assert_untouched(layout, LAYOUT);
     assert_untouched(answer, ANSWER);
 }
 
@@ -226,6 +260,7 @@ int main(void) {
     test_stores();
     test_cuts();
     test_refusals();
+    test_refused_advance();
     test_malformed();
     puts("volume: all checks passed");
     return 0;

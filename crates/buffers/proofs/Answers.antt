@@ -13,7 +13,7 @@ use Rattle.model.specs.declared.StepAnswer.the-variants.{Stepped, Refused}
 use Rattle.model.specs.Refusal.{numberOf, valuesOf}
 use Rattle.buffers.specs.declared.replies.Reply.{Reply}
 use Rattle.buffers.specs.Numbers.{numberBytes}
-use Rattle.buffers.specs.Replies.{answerSize, answerBytesOf, carriedOut, refusal, storedOf, sectorOf, saysOf, stepReply}
+use Rattle.buffers.specs.Replies.{answerSize, answerBytesOf, carriedOut, refusal, withCounts, storedOf, sectorOf, saysOf, stepReply}
 use Rattle.buffers.proofs.NumberBytes.{length-number-bytes}
 
 pub answered : (r : Reply) (b d : List ℕ) → length b ≡ answerSize → d ≡ patch b 0 (numberBytes 8 (r .first ∷ r .second ∷ r .third ∷ r .fourth ∷ r .fifth ∷ []))
@@ -34,5 +34,5 @@ module _ (a : StepAnswer) (n k : ℕ) (x : Reply) where
       → x ≡ stepReply a n k
   stepped-reply d w i j m ea ei ej em ex = rw (ex, ea, ei, ej, em)
 
-  pub refused-reply : (r : Refusal) → a ≡ Refused r → x ≡ refusal r → x ≡ stepReply a n k
-  refused-reply r ea ex = rw (ex, ea)
+  pub refused-reply : (r : Refusal) (y : Reply) → a ≡ Refused r → y ≡ refusal r → x ≡ withCounts y n k → x ≡ stepReply a n k
+  refused-reply r y ea ey ex = rw (ex, ea, ey)

@@ -8,6 +8,7 @@
 -- answerBytesOf r           : the bytes of the five numbers of the reply r
 -- carriedOut a b c d e      : the reply of a call that was carried out, with these five numbers
 -- refusal r                 : the reply of a call that was refused with r: how many values are also returned, then these
+-- withCounts r n k          : the reply r with n and k as its fourth and fifth number
 -- formatReply a ..          : the reply where the call of that name gave the answer a
 -- storedOf d, sectorOf d    : what a step did, as two numbers
 -- saysOf x                  : what a step says, as a number
@@ -63,6 +64,10 @@ refusal r =
       fifth = 0;
     }
 
+abbrev pub withCounts : Reply → ℕ → ℕ → Reply
+withCounts r n k =
+    record { number = r .number; first = r .first; second = r .second; third = r .third; fourth = n; fifth = k }
+
 abbrev pub formatReply : FormatAnswer → Reply
 formatReply formatting.Formatted = carriedOut 0 0 0 0 0
 formatReply (formatting.Refused r) = refusal r
@@ -106,10 +111,10 @@ saysOf saying.Nothing = 0
 saysOf saying.Acknowledged = 1
 saysOf saying.Filling = 2
 
--- with two numbers more, n and k
+-- with two numbers more, n and k, which a refusal has too
 abbrev pub stepReply : StepAnswer → ℕ → ℕ → Reply
 stepReply (stepping.Stepped d x) n k = carriedOut (storedOf d) (sectorOf d) (saysOf x) n k
-stepReply (stepping.Refused r) n k = refusal r
+stepReply (stepping.Refused r) n k = withCounts (refusal r) n k
 
 -- ---- what open and query give
 

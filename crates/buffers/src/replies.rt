@@ -19,7 +19,7 @@ ghost use mathlib.Core.Path.{_≡_};
 ghost use lib.ListN.{length};
 ghost use Rattle.model.specs.Refusal.{numberOf};
 ghost use Rattle.buffers.specs.VolumeState.{stateSize, layoutSize};
-ghost use Rattle.buffers.specs.Replies.{answerSize, answerBytesOf, carriedOut, refusal, formatReply, writeReply, flushReply, readReply, openReply, queryReply, storedOf, sectorOf, saysOf, stepReply, openedBytes, heldBytes};
+ghost use Rattle.buffers.specs.Replies.{answerSize, answerBytesOf, carriedOut, refusal, withCounts, formatReply, writeReply, flushReply, readReply, openReply, queryReply, storedOf, sectorOf, saysOf, stepReply, openedBytes, heldBytes};
 
 // What a call says: the number that it answers, and the five numbers that go to the answer's buffer.
 pub struct Reply {
@@ -79,6 +79,20 @@ fn refused(r: Refusal) -> Reply
         Refusal::NotNow => refused_with(number, 0, 0, 0),
         Refusal::Exhausted => refused_with(number, 0, 0, 0),
         Refusal::Misplaced(section) => refused_with(number, 1, section, 0),
+    }
+}
+
+// The same reply, with other numbers as its fourth and fifth.
+fn with_counts(r: Reply, fourth: u64, fifth: u64) -> Reply
+    ensures { λ x. ⌜ x ≡ withCounts r fourth fifth ⌝ }
+{
+    Reply {
+        number: r.number,
+        first: r.first,
+        second: r.second,
+        third: r.third,
+        fourth: fourth,
+        fifth: fifth,
     }
 }
 
@@ -174,7 +188,7 @@ fn says(x: Says) -> u64
     }
 }
 
-// The reply to what a step answers, with two numbers more.
+// The reply to what a step answers, with two numbers more, which a refusal has too.
 pub fn step_reply(a: StepAnswer, fourth: u64, fifth: u64) -> Reply
     ensures { λ r. ⌜ r ≡ stepReply a fourth fifth ⌝ }
 {
@@ -186,7 +200,7 @@ pub fn step_reply(a: StepAnswer, fourth: u64, fifth: u64) -> Reply
             fourth,
             fifth,
         ),
-        StepAnswer::Refused(r) => refused(r),
+        StepAnswer::Refused(r) => with_counts(refused(r), fourth, fifth),
     }
 }
 
@@ -199,7 +213,7 @@ pub fn put_reply(r: Reply, answer: &mut [u8]) -> u32
     r.number
 }
 
-// The reply where the state's buffer holds no state.
+// The reply where a buffer has a wrong length, or the state's holds no state.
 pub fn put_malformed(answer: &mut [u8]) -> u32
     requires { ⌜ length (now answer) ≡ answerSize ⌝ }
     ensures { λ n. ⌜ (n ≡ numberOf Refusal.Malformed) × (now (answer .exit) ≡ answerBytesOf (refusal Refusal.Malformed)) ⌝ }

@@ -1,5 +1,2 @@
--- What the exported calls leave: what they have in common, then the calls of each part.
-pub mod Outcome
-pub mod Sha256
-pub mod HashTree
+-- What the exported calls of the volume leave; those of SHA-256 and of the hash tree are in crate digest_calls.
 pub mod Volumes

@@ -33,7 +33,7 @@ use Rattle.model.specs.Advance.{AdvanceResult, advanceOf}
 use Rattle.buffers.specs.declared.replies.Reply.{Reply}
 use Rattle.buffers.specs.VolumeState.{stateSize, layoutSize, encodeOf, decodeOf, encodesState}
 use Rattle.buffers.specs.Replies.{answerSize, answerBytesOf, refusal, formatReply, writeReply, flushReply, readReply, openReply, queryReply, stepReply, openedBytes, heldBytes}
-use Rattle.gaffreel.specs.Outcome.{wrongLength, differs}
+use Rattle.digest_calls.specs.Outcome.{wrongLength, differs}
 
 -- ---- format
 
@@ -161,8 +161,8 @@ queryLeaves o l = record { number = queryReply o .number; layout = heldBytes o l
 unfoldable pub queryCall : List ℕ → ℕ → List ℕ → List ℕ → QueryCall
 queryCall v r l a =
     firstMet
-    ((differs (length l) layoutSize, record { number = wrongLength; layout = l; answer = a }) ∷
-    (differs (length a) answerSize, record { number = wrongLength; layout = l; answer = a }) ∷
+    ((differs (length a) answerSize, record { number = wrongLength; layout = l; answer = a }) ∷
+    (differs (length l) layoutSize, record { number = numberOf Malformed; layout = l; answer = answerBytesOf (refusal Malformed) }) ∷
     [])
     (queryLeaves (queryOf r v) l)
 
@@ -196,7 +196,7 @@ stepCall s v st a =
     [])
     (stepLeaves v (stepOf (decodeOf s) v st))
 
--- how many stores were made, and whether a step acknowledged the batch
+-- also how many stores were made, and whether a step acknowledged the batch, where the last step is refused too
 abbrev pub advanceReply : AdvanceResult → Reply
 advanceReply o = stepReply (o .answer) (o .stores) (pick (o .acknowledged) 1 0)
 

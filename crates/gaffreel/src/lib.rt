@@ -1,4 +1,5 @@
-// The C interface: what a firmware links (include/gaffreel.h). Each module holds the exported calls of one part.
+// The C interface: what a firmware links (include/gaffreel.h). Each module holds the exported calls of one part; those of SHA-256 and of the hash tree
+// are crate digest_calls', under their names in C.
 //
 // A call takes numbers and byte slices, and one that can refuse answers a number: 0 where it was carried out, else that of
 // a refusal in document 01, "Refusal numbers". After a refusal every buffer is as it was, but for one that receives what the
@@ -6,6 +7,3 @@
 pub mod hash_tree;
 pub mod sha256;
 pub mod volumes;
-
-// The number where a buffer has a wrong length.
-pub(crate) const WRONG_LENGTH: u32 = 1;

@@ -1,87 +1,35 @@
-// The digest's calls: document 01, "Digest". What each leaves is defined in specs/Sha256.antt.
-//
-// A state lies between two calls in a buffer of the caller's, which crate buffers lays out. Any bytes of its length are a state.
-use crate::WRONG_LENGTH;
-use buffers::DONE;
-use buffers::digest_state::DIGEST_SIZE;
-use buffers::digest_state::decode;
-use buffers::digest_state::encode;
-use buffers::digest_state::put_digest;
+// The calls of SHA-256 (FIPS 180-4), by crate digest_calls, which says what each leaves.
 ghost use mathlib.Core.Path.{_≡_};
-ghost use Rattle.gaffreel.specs.Sha256.{sha256Call, newCall, updateCall, finishCall};
+ghost use Rattle.digest_calls.specs.Sha256.{sha256Call, newCall, updateCall, finishCall};
 
-// The length of a state, in bytes.
-const STATE_SIZE: usize = 104;
-
-// The digest of a message that is lent whole. Refused where the digest's buffer has a wrong length, or the message is past the limit.
+// The digest of a message that is lent whole.
 #[no_mangle]
 pub extern "C" fn gaffreel_sha256(message: &[u8], digest: &mut [u8]) -> u32
     ensures { λ r. ⌜ record { number = r; buffer = now (digest .exit) } ≡ sha256Call (now (message .entry)) (now (digest .entry)) ⌝ }
 {
-    if digest.len() != DIGEST_SIZE {
-        return WRONG_LENGTH;
-    }
-    let closed = digest::sha256(message);
-    let answer = closed.answer;
-    let number = digest::number(answer);
-    if number != DONE {
-        return number;
-    }
-    let bytes = closed.digest;
-    put_digest(bytes, digest);
-    DONE
+    digest_calls::sha256::whole(message, digest)
 }
 
-// The state before any piece. Refused where its buffer has a wrong length.
+// The state before any piece.
 #[no_mangle]
 pub extern "C" fn gaffreel_sha256_new(state: &mut [u8]) -> u32
     ensures { λ r. ⌜ record { number = r; buffer = now (state .exit) } ≡ newCall (now (state .entry)) ⌝ }
 {
-    if state.len() != STATE_SIZE {
-        return WRONG_LENGTH;
-    }
-    encode(digest::fresh(), state);
-    DONE
+    digest_calls::sha256::begin(state)
 }
 
-// A piece added to the state. Refused where its buffer has a wrong length, or the total would pass the limit.
+// A piece added to the state.
 #[no_mangle]
 pub extern "C" fn gaffreel_sha256_update(state: &mut [u8], piece: &[u8]) -> u32
     ensures { λ r. ⌜ record { number = r; buffer = now (state .exit) } ≡ updateCall (now (state .entry)) (now (piece .entry)) ⌝ }
 {
-    if state.len() != STATE_SIZE {
-        return WRONG_LENGTH;
-    }
-    let updated = digest::update(decode(state), piece);
-    let answer = updated.answer;
-    let number = digest::number(answer);
-    if number != DONE {
-        return number;
-    }
-    let next = updated.state;
-    encode(next, state);
-    DONE
+    digest_calls::sha256::update(state, piece)
 }
 
-// The digest of all the pieces; the state stays, and may take further ones. Refused where a buffer has a wrong length, or the state is
-// past the limit.
+// The digest of all the pieces.
 #[no_mangle]
 pub extern "C" fn gaffreel_sha256_finish(state: &[u8], digest: &mut [u8]) -> u32
     ensures { λ r. ⌜ record { number = r; buffer = now (digest .exit) } ≡ finishCall (now (state .entry)) (now (digest .entry)) ⌝ }
 {
-    if state.len() != STATE_SIZE {
-        return WRONG_LENGTH;
-    }
-    if digest.len() != DIGEST_SIZE {
-        return WRONG_LENGTH;
-    }
-    let closed = digest::finish(decode(state));
-    let answer = closed.answer;
-    let number = digest::number(answer);
-    if number != DONE {
-        return number;
-    }
-    let bytes = closed.digest;
-    put_digest(bytes, digest);
-    DONE
+    digest_calls::sha256::finish(state, digest)
 }

@@ -1,7 +1,6 @@
 // The volume's calls: document 01, "Working a volume". What each leaves is defined in specs/Volumes.antt.
 //
 // A state lies between two calls in a buffer of the caller's, and what a call says goes to an answer's buffer; crate buffers lays out both.
-use crate::WRONG_LENGTH;
 use buffers::replies::flush_reply;
 use buffers::replies::format_reply;
 use buffers::replies::open_reply;
@@ -17,6 +16,7 @@ use buffers::volume_state::STATE_SIZE;
 use buffers::volume_state::decode;
 use buffers::volume_state::encode;
 use buffers::volume_state::encodes_state;
+use digest_calls::WRONG_LENGTH;
 use model::Layout;
 ghost use mathlib.Core.Path.{_≡_};
 ghost use Rattle.octets.specs.Choice.{pick};
@@ -64,7 +64,7 @@ pub extern "C" fn gaffreel_volume_format(
     put_reply(format_reply(said), answer)
 }
 
-// The numbers that a volume's superblock holds, and the bytes that staging must have. Refused where the layout's or the answer's buffer has a
+// The numbers that a volume's superblock holds, and the bytes that staging must have. Refused where the answer's or the layout's buffer has a
 // wrong length, or as querying is.
 #[no_mangle]
 pub extern "C" fn gaffreel_volume_query(
@@ -75,11 +75,11 @@ pub extern "C" fn gaffreel_volume_query(
 ) -> u32
     ensures { λ r. ⌜ record { number = r; layout = now (layout .exit); answer = now (answer .exit) } ≡ queryCall (now (v .entry)) reserved (now (layout .entry)) (now (answer .entry)) ⌝ }
 {
-    if layout.len() != LAYOUT_SIZE {
-        return WRONG_LENGTH;
-    }
     if answer.len() != ANSWER_SIZE {
         return WRONG_LENGTH;
+    }
+    if layout.len() != LAYOUT_SIZE {
+        return put_malformed(answer);
     }
     let said = volume::query::query(v, reserved);
     put_held(said, layout);
@@ -174,7 +174,8 @@ pub extern "C" fn gaffreel_volume_step(
     put_reply(step_reply(said, 0, 0), answer)
 }
 
-// Makes so many steps, one after the other. Refused likewise; state, volume and staging are then as the steps before left them.
+// Makes so many steps, one after the other. Refused likewise; state, volume and staging are then as the steps before left them, and the answer
+// has their counts.
 #[no_mangle]
 pub extern "C" fn gaffreel_volume_advance(
     state: &mut [u8],

@@ -29,9 +29,10 @@ use Rattle.model.specs.Open.{openOf}
 use Rattle.model.specs.Query.{queryOf}
 use Rattle.model.specs.Step.{StepResult, stepOf}
 use Rattle.model.specs.Advance.{advanceOf}
-use Rattle.volume.specs.Results.{written, advanced, Leaves}
+use Rattle.batch.specs.Results.{written}
+use Rattle.volume.specs.Results.{advanced, Leaves}
 use Rattle.buffers.specs.declared.replies.Reply.{Reply}
-use Rattle.gaffreel.specs.Outcome.{wrongLength}
+use Rattle.digest_calls.specs.Outcome.{wrongLength}
 use Rattle.buffers.specs.VolumeState.{decodeOf, encodeOf, encodesState, stateSize, layoutSize}
 use Rattle.buffers.specs.Replies.{answerSize, answerBytesOf, refusal, formatReply, writeReply, flushReply, readReply, openReply, queryReply, openedBytes, heldBytes, stepReply}
 use Rattle.gaffreel.specs.Volumes.{formatCall, writeCall, flushCall, readCall, openCall, queryCall, stepCall, advanceReply, advanceCall}
@@ -141,20 +142,20 @@ module _ (v st : List ℕ) (r : ℕ) (s a : List ℕ) where
 -- ---- gaffreel_volume_query
 
 module _ (v : List ℕ) (r : ℕ) (l a : List ℕ) where
-  pub query-wrong-layout : length l ≢ layoutSize → record { number = wrongLength; layout = l; answer = a } ≡ queryCall v r l a
+  pub query-wrong : length a ≢ answerSize → record { number = wrongLength; layout = l; answer = a } ≡ queryCall v r l a
   unfolding queryCall
-  query-wrong-layout h = rw (ne-eqb (length l) layoutSize h)
+  query-wrong h = rw (ne-eqb (length a) answerSize h)
 
-  module _ (layout-fits : length l ≡ layoutSize) where
-    pub query-wrong-answer : length a ≢ answerSize → record { number = wrongLength; layout = l; answer = a } ≡ queryCall v r l a
+  module _ (fits : length a ≡ answerSize) (a' : List ℕ) (n : ℕ) where
+    pub query-malformed : length l ≢ layoutSize → (n ≡ numberOf Malformed) × (a' ≡ answerBytesOf (refusal Malformed))
+        → record { number = n; layout = l; answer = a' } ≡ queryCall v r l a
     unfolding queryCall
-    query-wrong-answer h = rw (eq-eqb (length l) layoutSize layout-fits, ne-eqb (length a) answerSize h)
+    query-malformed h p = rw (eq-eqb (length a) answerSize fits, ne-eqb (length l) layoutSize h, p .0, p .1)
 
-    pub query-made : length a ≡ answerSize → (o : QueryAnswer) (l' a' : List ℕ) (n : ℕ) → o ≡ queryOf r v → l' ≡ heldBytes o l
+    pub query-made : length l ≡ layoutSize → (o : QueryAnswer) (l' : List ℕ) → o ≡ queryOf r v → l' ≡ heldBytes o l
         → Replied (queryReply o) n a' → record { number = n; layout = l'; answer = a' } ≡ queryCall v r l a
     unfolding queryCall
-    query-made fits o l' a' n e el p =
-        rw (eq-eqb (length l) layoutSize layout-fits, eq-eqb (length a) answerSize fits, ← e, el, p .number, p .answer)
+    query-made h o l' e el p = rw (eq-eqb (length a) answerSize fits, eq-eqb (length l) layoutSize h, ← e, el, p .number, p .answer)
 
 -- ---- gaffreel_volume_step
 

@@ -139,9 +139,9 @@ query-by g l (refused r) h = refl
 module _ (v : List ℕ) (r : ℕ) (l a : List ℕ) where
   pub query-refused : queryCall v r l a .number ≢ done → queryCall v r l a .layout ≡ l
   unfolding queryCall queryWith
-  query-refused = go (which (eqb (length l) layoutSize)) (which (eqb (length a) answerSize))
+  query-refused = go (which (eqb (length a) answerSize)) (which (eqb (length l) layoutSize))
     where
-      go : Which (eqb (length l) layoutSize) → Which (eqb (length a) answerSize) → queryCall v r l a .number ≢ done → queryCall v r l a .layout ≡ l
+      go : Which (eqb (length a) answerSize) → Which (eqb (length l) layoutSize) → queryCall v r l a .number ≢ done → queryCall v r l a .layout ≡ l
       go (isFalse e) w = rw e (λ h. refl)
       go (isTrue e) (isFalse f) = rw (e, f) (λ h. refl)
       go (isTrue e) (isTrue f) =

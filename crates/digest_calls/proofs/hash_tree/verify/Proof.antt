@@ -1,7 +1,7 @@
 use borrow.Author.Needs.{needs}
-use Rattle.gaffreel.proofs.hash_tree.Calls.{verify-wrong, verify-answers}
-use Rattle.gaffreel.proofs.hash_tree.gaffreel_tree_verify.Statement.{statement}
-use Rattle.gaffreel.proofs.hash_tree.gaffreel_tree_verify.Tie as tie
+use Rattle.digest_calls.proofs.hash_tree.Calls.{verify-wrong, verify-answers}
+use Rattle.digest_calls.proofs.hash_tree.verify.Statement.{statement}
+use Rattle.digest_calls.proofs.hash_tree.verify.Tie as tie
 
 returns : tie.Need-returns
 returns c = verify-wrong _ _ _ _ _ _ _ (c .if1 .taken)
@@ -9,7 +9,7 @@ returns c = verify-wrong _ _ _ _ _ _ _ (c .if1 .taken)
 returns-2 : tie.Need-returns-2
 returns-2 c = verify-answers _ _ _ _ _ _ _ (c .before .before .before .before .before .verify .result) (c .before .before .before .before .before .before .if1 .left) (c .before .before .before .before .before .verify .ensures) (c .before .before .before .put-level .ensures) (c .number .ensures)
 
-pub gaffreel-tree-verify-spec : {M : Type 1} → statement M
-gaffreel-tree-verify-spec =
+pub verify-spec : {M : Type 1} → statement M
+verify-spec =
     tie.close
     (tie.spec returns (λ c κs. search needs) (λ c κs. search needs) (λ c κs. search needs) (λ c. search needs) returns-2)

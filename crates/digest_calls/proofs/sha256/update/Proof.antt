@@ -1,7 +1,7 @@
 use borrow.Author.Needs.{needs}
-use Rattle.gaffreel.proofs.sha256.Calls.{update-wrong, update-refused, update-done}
-use Rattle.gaffreel.proofs.sha256.gaffreel_sha256_update.Statement.{statement}
-use Rattle.gaffreel.proofs.sha256.gaffreel_sha256_update.Tie as tie
+use Rattle.digest_calls.proofs.sha256.Calls.{update-wrong, update-refused, update-done}
+use Rattle.digest_calls.proofs.sha256.update.Statement.{statement}
+use Rattle.digest_calls.proofs.sha256.update.Tie as tie
 
 returns : tie.Need-returns
 returns c = update-wrong (c .before .before .before .args .state .now) (c .before .before .before .args .piece .now) (c .if1 .taken)
@@ -12,8 +12,8 @@ returns-2 c = update-refused (c .before .before .before .before .before .before 
 returns-3 : tie.Need-returns-3
 returns-3 c = update-done (c .before .before .before .before .before .before .before .before .before .before .before .before .before .args .state .now) (c .before .before .before .before .before .before .before .before .before .before .before .before .before .args .piece .now) (c .before .before .before .before .before .before .before .before .before .before .if1 .left) (c .before .before .before .before .before .before .before .before .decode .ensures) (c .before .before .before .before .before .before .before .update .ensures) (c .before .before .before .before .before .before .number .ensures) (c .before .before .before .before .before .if2 .left) (c .before .before .encode .ensures)
 
-pub gaffreel-sha256-update-spec : {M : Type 1} → statement M
-gaffreel-sha256-update-spec =
+pub update-spec : {M : Type 1} → statement M
+update-spec =
     tie.close
     (tie.spec
     returns

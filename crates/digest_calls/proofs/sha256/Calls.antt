@@ -9,11 +9,11 @@ use Rattle.digest.specs.declared.Updated.{Updated}
 use Rattle.digest.specs.declared.Closed.{Closed}
 use Rattle.digest.specs.Pieces.{numberOf, freshOf, updateOf, finishOf, digestOf}
 use Rattle.buffers.specs.Replies.{done}
-use Rattle.gaffreel.specs.Outcome.{wrongLength, carriedOut, refused}
+use Rattle.digest_calls.specs.Outcome.{wrongLength, carriedOut, refused}
 use Rattle.buffers.specs.DigestState.{digestSize, stateSize, decodeOf, encodeOf}
-use Rattle.gaffreel.specs.Sha256.{sha256Call, newCall, updateCall, finishCall}
+use Rattle.digest_calls.specs.Sha256.{sha256Call, newCall, updateCall, finishCall}
 
--- ---- gaffreel_sha256
+-- ---- whole
 
 module _ (m d : List ℕ) where
   pub sha256-wrong : (length d ≡ digestSize → ⊥) → refused wrongLength d ≡ sha256Call m d
@@ -32,7 +32,7 @@ module _ (m d : List ℕ) where
     unfolding sha256Call
     sha256-done h eb = rw (eq-eqb (length d) digestSize fits, ← sha256-number, eq-eqb n done h, eb, er)
 
--- ---- gaffreel_sha256_new
+-- ---- begin
 
 pub new-wrong : (s : List ℕ) → (length s ≡ stateSize → ⊥) → refused wrongLength s ≡ newCall s
 unfolding newCall
@@ -42,7 +42,7 @@ pub new-done : (s : List ℕ) {b : List ℕ} {f : State} → length s ≡ stateS
 unfolding newCall
 new-done s fits ef eb = rw (eq-eqb (length s) stateSize fits, eb, ef)
 
--- ---- gaffreel_sha256_update
+-- ---- update
 
 module _ (s p : List ℕ) where
   pub update-wrong : (length s ≡ stateSize → ⊥) → refused wrongLength s ≡ updateCall s p
@@ -64,7 +64,7 @@ module _ (s p : List ℕ) where
     unfolding updateCall
     update-done h eb = rw (eq-eqb (length s) stateSize fits, ← update-number, eq-eqb n done h, eb, updated)
 
--- ---- gaffreel_sha256_finish
+-- ---- finish
 
 module _ (s d : List ℕ) where
   pub finish-wrong-state : (length s ≡ stateSize → ⊥) → refused wrongLength d ≡ finishCall s d

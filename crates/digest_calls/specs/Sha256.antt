@@ -14,7 +14,7 @@ use Rattle.digest.specs.declared.Answer.{Answer}
 use Rattle.digest.specs.Pieces.{numberOf, freshOf, updateOf, finishOf, digestOf}
 use Rattle.buffers.specs.DigestState.{digestSize, stateSize, decodeOf, encodeOf}
 use Rattle.buffers.specs.Replies.{done}
-use Rattle.gaffreel.specs.Outcome.{Outcome, wrongLength, carriedOut, refused, differs}
+use Rattle.digest_calls.specs.Outcome.{Outcome, wrongLength, carriedOut, refused, differs}
 
 abbrev pub refuses : Answer → Bool
 refuses a = differs (numberOf a) done

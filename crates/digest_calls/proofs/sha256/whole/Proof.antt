@@ -1,7 +1,7 @@
 use borrow.Author.Needs.{needs}
-use Rattle.gaffreel.proofs.sha256.Calls.{sha256-wrong, sha256-refused, sha256-done}
-use Rattle.gaffreel.proofs.sha256.gaffreel_sha256.Statement.{statement}
-use Rattle.gaffreel.proofs.sha256.gaffreel_sha256.Tie as tie
+use Rattle.digest_calls.proofs.sha256.Calls.{sha256-wrong, sha256-refused, sha256-done}
+use Rattle.digest_calls.proofs.sha256.whole.Statement.{statement}
+use Rattle.digest_calls.proofs.sha256.whole.Tie as tie
 
 returns : tie.Need-returns
 returns c = sha256-wrong (c .before .before .before .args .message .now) (c .before .before .before .args .digest .now) (c .if1 .taken)
@@ -12,8 +12,8 @@ returns-2 c = sha256-refused (c .before .before .before .before .before .before 
 returns-3 : tie.Need-returns-3
 returns-3 c = sha256-done (c .before .before .before .before .before .before .before .before .before .before .before .args .message .now) (c .before .before .before .before .before .before .before .before .before .before .before .args .digest .now) (c .before .before .before .before .before .before .before .before .if1 .left) (c .before .before .before .before .before .before .before .sha256 .ensures) (c .before .before .before .before .before .before .number .ensures) (c .before .before .before .before .before .if2 .left) (c .before .before .put-digest .ensures)
 
-pub gaffreel-sha256-spec : {M : Type 1} → statement M
-gaffreel-sha256-spec =
+pub whole-spec : {M : Type 1} → statement M
+whole-spec =
     tie.close
     (tie.spec
     returns

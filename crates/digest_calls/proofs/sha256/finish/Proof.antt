@@ -1,7 +1,7 @@
 use borrow.Author.Needs.{needs}
-use Rattle.gaffreel.proofs.sha256.Calls.{finish-wrong-state, finish-wrong-digest, finish-refused, finish-done}
-use Rattle.gaffreel.proofs.sha256.gaffreel_sha256_finish.Statement.{statement}
-use Rattle.gaffreel.proofs.sha256.gaffreel_sha256_finish.Tie as tie
+use Rattle.digest_calls.proofs.sha256.Calls.{finish-wrong-state, finish-wrong-digest, finish-refused, finish-done}
+use Rattle.digest_calls.proofs.sha256.finish.Statement.{statement}
+use Rattle.digest_calls.proofs.sha256.finish.Tie as tie
 
 returns : tie.Need-returns
 returns c = finish-wrong-state (c .before .before .before .args .state .now) (c .before .before .before .args .digest .now) (c .if1 .taken)
@@ -15,8 +15,8 @@ returns-3 c = finish-refused (c .before .before .before .before .before .before 
 returns-4 : tie.Need-returns-4
 returns-4 c = finish-done (c .before .before .before .before .before .before .before .before .before .before .before .before .before .args .state .now) (c .before .before .before .before .before .before .before .before .before .before .before .before .before .args .digest .now) (c .before .before .before .before .before .before .before .before .before .before .if1 .left) (c .before .before .before .before .before .before .before .before .before .if2 .left) (c .before .before .before .before .before .before .before .before .decode .ensures) (c .before .before .before .before .before .before .before .finish .ensures) (c .before .before .before .before .before .before .number .ensures) (c .before .before .before .before .before .if3 .left) (c .before .before .put-digest .ensures)
 
-pub gaffreel-sha256-finish-spec : {M : Type 1} → statement M
-gaffreel-sha256-finish-spec =
+pub finish-spec : {M : Type 1} → statement M
+finish-spec =
     tie.close
     (tie.spec
     returns

@@ -1,7 +1,7 @@
 use borrow.Author.Needs.{needs}
-use Rattle.gaffreel.proofs.hash_tree.Calls.{build-wrong, build-refused, build-done}
-use Rattle.gaffreel.proofs.hash_tree.gaffreel_tree_build.Statement.{statement}
-use Rattle.gaffreel.proofs.hash_tree.gaffreel_tree_build.Tie as tie
+use Rattle.digest_calls.proofs.hash_tree.Calls.{build-wrong, build-refused, build-done}
+use Rattle.digest_calls.proofs.hash_tree.build.Statement.{statement}
+use Rattle.digest_calls.proofs.hash_tree.build.Tie as tie
 
 returns : tie.Need-returns
 returns c = build-wrong _ _ _ _ _ (c .if1 .taken)
@@ -12,8 +12,8 @@ returns-2 c = build-refused _ _ _ _ _ (c .before .before .before .before .build 
 returns-3 : tie.Need-returns-3
 returns-3 c = build-done _ _ _ _ _ (c .before .before .before .before .before .before .before .before .before .build .result) _ (c .before .before .before .before .before .before .before .before .before .before .before .if1 .left) (c .before .before .before .before .before .before .before .before .before .build .ensures) (c .before .before .before .before .before .before .number .ensures) (c .before .before .before .before .before .if2 .left) (c .before .before .put-digest .ensures)
 
-pub gaffreel-tree-build-spec : {M : Type 1} → statement M
-gaffreel-tree-build-spec =
+pub build-spec : {M : Type 1} → statement M
+build-spec =
     tie.close
     (tie.spec
     returns

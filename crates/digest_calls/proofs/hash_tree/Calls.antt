@@ -19,10 +19,10 @@ use Rattle.tree.specs.Answer.{Refusal, numberOf, valuesOf, refusalOf}
 use Rattle.tree.specs.Build.{BuildOutcome, outcomeOf, buildRows, builtOf, buildOf}
 use Rattle.tree.specs.Verify.{verifyOf}
 use Rattle.buffers.specs.Replies.{done}
-use Rattle.gaffreel.specs.Outcome.{wrongLength, refused}
-use Rattle.gaffreel.specs.HashTree.{lengthCall, refusedBuild, buildCall, levelSize, levelBufferOf, verifyCall}
+use Rattle.digest_calls.specs.Outcome.{wrongLength, refused}
+use Rattle.digest_calls.specs.HashTree.{lengthCall, refusedBuild, buildCall, levelSize, levelBufferOf, verifyCall}
 
--- ---- gaffreel_tree_length
+-- ---- tree_length
 
 module _ (n : ℕ) where
   pub length-none : n ≡ 0 → 0 ≡ lengthCall n
@@ -38,7 +38,7 @@ module _ (n : ℕ) where
     unfolding lengthCall
     length-of h e = rw (ne-eqb n 0 some, le-ltb mostBlocks n h) e
 
--- ---- gaffreel_tree_build
+-- ---- build
 
 -- every row's answer has the tree t
 abbrev KeepTree : List ℕ → List (Bool × BuildOutcome) → Type 0
@@ -84,7 +84,7 @@ module _ (n : ℕ) (s d t r : List ℕ) where
         let root : r' ≡ buildOf n s d t .root = er ∙ ap (λ (o : BuildOutcome). o .root) eb in
         rw (eq-eqb (length r) digestSize fits, ← build-number, eq-eqb k done h, build-tree, root)
 
--- ---- gaffreel_tree_verify
+-- ---- verify
 
 -- a number written over a level's buffer
 level-written : (l l' : List ℕ) (x : ℕ) → length l ≡ levelSize → l' ≡ patch l 0 (le levelSize x) → l' ≡ le levelSize x
