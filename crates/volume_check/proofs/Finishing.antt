@@ -1,0 +1,386 @@
+-- A recovery ends: what holds after each of its steps, on any volume that opens.
+use Prim.Native.Nat.{ℕ, zero, suc, _+_, _*_, _≤_, _<_}
+use mathlib.Core.Bool.{Bool, true, false, not, _&&_}
+use mathlib.Core.List.{List, [], _∷_}
+use mathlib.Core.Path.{_≡_, refl, sym, ap, _∙_, subst}
+use native.Mathlib.Decide.{ℕ-discrete}
+use native.Mathlib.Numerals.{add-one}
+use native.Mathlib.Omega.{arith}
+use lib.Dec.{leb, ltb, eqb}
+use lib.ListN.{length, getD, replicate, length-replicate}
+use borrow.Author.Tests.{eq-eqb, ne-eqb, lt-ltb, le-leb, lt-leb, leb-false, ltb-false, not-false}
+use Rattle.octets.specs.Choice.{pick, firstMet, Unmet, NoneAnswers}
+use Rattle.octets.specs.Parts.{same}
+use Rattle.octets.specs.Sectors.{sectorAt}
+use Rattle.octets.proofs.Choice.{passes, unmet, met}
+use Rattle.octets.proofs.Parts.{length-part}
+use Rattle.model.specs.declared.Layout.{Layout}
+use Rattle.model.specs.declared.OpenAnswer.the-variants.{Opened}
+use Rattle.model.specs.declared.Phase.{Phase}
+use Rattle.model.specs.declared.Phase.the-variants.{Filling, Recovering}
+use Rattle.model.specs.declared.Refusal.the-variants.{JournalRange, JournalTagMismatch, TagMismatch}
+use Rattle.model.specs.declared.State.{State}
+use Rattle.model.specs.Layout.{entryCount, sectionSize, sectionAt, dataAt, needed, layoutOk}
+use Rattle.model.specs.Section.{unused, entryOf, emptySection, collect}
+use Rattle.model.specs.Journal.{greatestId, sectionOf, Replayed, usedEntry, usedOf, replay}
+use Rattle.model.specs.Superblock.{superblockAt, layoutIn}
+use Rattle.model.specs.Store.{made, homeCount, homeStore, Place, storeOf, plan, storesOf}
+use Rattle.model.specs.Tag.{Tag, tagOf, tagAt}
+use Rattle.model.specs.State.{Verdict, passed, refused, placeOk, replayOk, volumeLoanOk, stateOk, volumeOk, stagingOk, isFilling}
+use Rattle.model.specs.Open.{openRows, entriesVerdict, phaseFor, openedState, OpenResult, openBy, openWith, openOf}
+use Rattle.model.specs.Step.{noPlace, placeAt, placeRow, StepResult, homeStep, recoverPlace, stepBy, stepOf}
+use Rattle.model.specs.Read.{ReadResult, readBy, readOf}
+use Rattle.model.specs.World.{readTaken}
+use Rattle.model.specs.Advance.{AdvanceResult, noStep, stepMade, oneMore, advanceFrom, advanceOf}
+use Rattle.model.proofs.Addresses.{Ranged, ranged}
+use Rattle.model.proofs.Homes.{home-length, home-sections}
+use Rattle.model.proofs.Invariant.{stateAt}
+use Rattle.model.proofs.Journals.{Every, every-append, every-replay, replay-kept}
+use Rattle.model.proofs.Sections.{per-pos, length-empty}
+use Rattle.journal.proofs.Sizes.{width-high, section-inside}
+use Rattle.setup.proofs.Queries.{refusal-no-pass, valid-layout}
+use Rattle.volume.proofs.Steps.{in-phase}
+use Rattle.volume.proofs.Advancing.{bytes-length, tag-length}
+use Rattle.volume_check.specs.Check.{RecoverResult, recovered, recoverFrom, recoverOf, isBad}
+use Rattle.volume_check.specs.Finishes.{EndsAfter, Ends, BadMeansTag, Finished, Finishes}
+use Rattle.volume_check.specs.declared.RecoverAnswer.the-variants as recovering
+
+-- ---- entries to be replayed
+
+-- an entry that has all its bytes
+record Complete (g : Layout) (x : Replayed) : Type 0 where
+  whole : length (x .entry .bytes) ≡ 512
+  sized : length (x .entry .tag) ≡ g .width
+
+-- a complete one for a sector that the volume provides: two stores bring it home
+record Sound (g : Layout) (x : Replayed) : Type 0 where
+  low : x .entry .sector < g .provided
+  complete : Complete g x
+
+module _ (g : Layout) (ok : layoutOk g ≡ true) (v : List ℕ) (room : needed g * 512 ≤ length v) where
+  -- every used entry of a section is complete
+  used-complete : (k : ℕ) → k < g .sections → Every (Complete g) (usedOf (g .width) k (sectionOf g v k))
+  used-complete k l = all (entryCount (g .width)) (omega arith)
+    where
+      t : ℕ
+      t = g .width
+
+      sec : List ℕ
+      sec = sectionOf g v k
+
+      size : length sec ≡ sectionSize t * 512
+      size = length-part v (sectionAt g k * 512) (sectionSize t * 512) (omega (arith, section-inside g ok (length v) k room l))
+
+      one : (i : ℕ) → i < entryCount t → (b : Bool) → Every (Complete g) (pick b [] (record { section = k; place = i; entry = entryOf t sec i } ∷ []))
+      one i m true = tt
+      one i m false = (record { whole = bytes-length t i (width-high g ok) m sec size; sized = tag-length t i (width-high g ok) m sec size }, tt)
+
+      all : (m : ℕ) → m ≤ entryCount t → Every (Complete g) (collect m (λ i. usedEntry k i (entryOf t sec i)))
+      all zero h = tt
+      all (suc m) h =
+          every-append (Complete g) (collect m (λ i. usedEntry k i (entryOf t sec i))) (usedEntry k m (entryOf t sec m)) (all m (omega arith))
+          (one m (omega arith) (eqb (entryOf t sec m .sector) unused))
+
+  replay-complete : Every (Complete g) (replay g v)
+  replay-complete = every-replay g v (Complete g) (λ k l n. used-complete k l)
+
+-- where open's check of them passed, the volume provides their sectors
+entries-sound : (tag : Tag) (g : Layout) (xs : List Replayed) → Every (Complete g) xs → entriesVerdict tag g xs ≡ passed → Every (Sound g) xs
+entries-sound tag g [] p e = tt
+entries-sound tag g (x ∷ xs) p e =
+    go (entries-sound tag g xs (p .1)) (leb (g .provided) (x .entry .sector)) refl (not (same (x .entry .tag) (tag (x .entry .sector) (x .entry .bytes)))) e
+  where
+    go : (entriesVerdict tag g xs ≡ passed → Every (Sound g) xs) → (high : Bool) → leb (g .provided) (x .entry .sector) ≡ high → (wrong : Bool)
+        → pick high (refused (JournalRange (x .section) (x .place))) (pick wrong (refused (JournalTagMismatch (x .section) (x .place))) (entriesVerdict tag g xs)) ≡ passed
+        → Every (Sound g) (x ∷ xs)
+    go ih true l w e = absurd (refusal-no-pass _ e)
+    go ih false l true e = absurd (refusal-no-pass _ e)
+    go ih false l false e = (record { low = leb-false (g .provided) (x .entry .sector) l; complete = p .0 }, ih e)
+
+-- a place of the replay is the first or the second store of a sound entry
+abbrev SoundPlace : Layout → Place → Type 0
+SoundPlace g (storeOf x h) = Sound g x × (h < 2)
+
+place-sound : (g : Layout) (xs : List Replayed) → Every (Sound g) xs → (k : ℕ) → k < storesOf g xs → SoundPlace g (getD (plan g xs) k noPlace)
+unfolding homeCount
+place-sound g [] p k l = absurd (omega arith)
+place-sound g (x ∷ xs) p zero l = (p .0, omega arith)
+place-sound g (x ∷ xs) p (suc zero) l = (p .0, omega arith)
+place-sound g (x ∷ xs) p (suc (suc k)) l = place-sound g xs (p .1) k (omega arith)
+
+-- two stores to an entry
+stores-twice : (g : Layout) (xs : List Replayed) → storesOf g xs ≡ 2 * length xs
+unfolding homeCount
+stores-twice g [] = refl
+stores-twice g (x ∷ xs) = omega (arith, stores-twice g xs)
+
+-- ---- the steps of a recovery
+
+module _ (g : Layout) (ok : layoutOk g ≡ true) (v₀ : List ℕ) (loan : volumeLoanOk v₀ ≡ true) (room : needed g * 512 ≤ length v₀)
+    (entries : Every (Sound g) (replay g v₀)) where
+  abbrev total : ℕ
+  total = storesOf g (replay g v₀)
+
+  abbrev empty : List ℕ
+  empty = emptySection (g .width)
+
+  abbrev inState : Phase → State
+  inState p = stateAt g 0 (greatestId g v₀ + 1) p
+
+  abbrev phaseAfter : ℕ → Phase
+  phaseAfter i = pick (eqb i total) Filling (Recovering i)
+
+  -- what i steps left
+  record Reached (i : ℕ) (o : AdvanceResult) : Type 0 where
+    stores : o .stores ≡ i
+    state : o .state ≡ inState (phaseAfter i)
+    sized : length (o .volume) ≡ length v₀
+    sections : (k : ℕ) → k < g .sections → sectionOf g (o .volume) k ≡ sectionOf g v₀ k
+    staging : o .staging ≡ empty
+
+  -- ---- no step is refused
+
+  state-ok : (p : Phase) → placeOk g 0 (greatestId g v₀ + 1) p ≡ true → stateOk (inState p) ≡ true
+  unfolding stateOk
+  state-ok p e = rw (ok, le-leb 0 (entryCount (g .width)) (omega arith), ne-eqb (greatestId g v₀ + 1) 0 (λ z. omega arith), e)
+
+  volume-ok : (p : Phase) (v : List ℕ) → length v ≡ length v₀ → replayOk g v p ≡ true → volumeOk (inState p) v ≡ true
+  unfolding volumeOk
+  volume-ok p v z e =
+      let whole : volumeLoanOk v ≡ true = rw z loan in
+      rw (whole, le-leb (needed g * 512) (length v) (omega arith), e)
+
+  staging-ok : stagingOk g empty ≡ true
+  unfolding stagingOk
+  staging-ok = eq-eqb (length empty) (sectionSize (g .width) * 512) (length-empty (g .width) (per-pos (g .width) (omega (arith, width-high g ok))))
+
+  row-passes : (p : Place) → SoundPlace g p → firstMet (placeRow g p ∷ []) passed ≡ passed
+  row-passes (storeOf x h) s = rw (lt-leb (g .provided) (x .entry .sector) (s .0 .low))
+
+  module _ (i : ℕ) (o : AdvanceResult) (low : i < total) (R : Reached i o) where
+    abbrev v : List ℕ
+    v = o .volume
+
+    abbrev here : State
+    here = inState (Recovering i)
+
+    replayed : replay g v ≡ replay g v₀
+    replayed = replay-kept g v v₀ (R .sections)
+
+    place : SoundPlace g (placeAt g v i)
+    place = subst (λ (xs : List Replayed). SoundPlace g (getD (plan g xs) i noPlace)) (sym replayed) (place-sound g (replay g v₀) entries i low)
+
+    present : i < storesOf g (replay g v)
+    present = omega (arith, ap (storesOf g) replayed)
+
+    steps : stepOf here v empty ≡ recoverPlace here v empty i (placeAt g v i)
+    steps =
+        in-phase here v empty (state-ok (Recovering i) refl) (volume-ok (Recovering i) v (R .sized) (lt-ltb i (storesOf g (replay g v)) present)) staging-ok (Recovering i) refl
+        ∙ ap (stepBy here v empty) (row-passes (placeAt g v i) place)
+
+    state-here : o .state ≡ here
+    state-here = R .state ∙ ap (λ (b : Bool). inState (pick b Filling (Recovering i))) (ne-eqb i total (λ z. omega arith))
+
+    -- ---- what it leaves
+
+    room-here : needed g * 512 ≤ length v
+    room-here = omega (arith, R .sized)
+
+    phase-next : (last : Bool) → last ≡ eqb (i + 1) (storesOf g (replay g v)) → pick last Filling (Recovering (i + 1)) ≡ phaseAfter (suc i)
+    phase-next last q =
+        ap (λ (b : Bool). pick b Filling (Recovering (i + 1))) (q ∙ ap (λ (xs : List Replayed). eqb (i + 1) (storesOf g xs)) replayed)
+        ∙ ap phaseAfter (add-one i)
+
+    module _ (x : Replayed) (h : ℕ) (s : Sound g x) (half : h < 2) where
+      store-reached : (y : AdvanceResult) → y .stores ≡ o .stores + 1 → y .state ≡ inState (phaseAfter (suc i))
+          → y .volume ≡ made v (homeStore g v (x .entry) h) → y .staging ≡ empty → Reached (suc i) y
+      store-reached y count state volume staging =
+          let R′ : Ranged g = ranged g ok in
+          let tag : Tag = tagOf (g .width) in
+          record {
+            stores = omega (arith, R .stores);
+            state = state;
+            sized = ap length volume ∙ home-length g R′ tag v room-here (x .entry) (s .low) (s .complete .whole) (s .complete .sized) h half ∙ R .sized;
+            sections = λ k l.
+                ap (λ (w : List ℕ). sectionOf g w k) volume
+                ∙ home-sections g R′ tag v room-here (x .entry) (s .low) (s .complete .whole) (s .complete .sized) h half k l ∙ R .sections k l;
+            staging = staging;
+          }
+
+      home-reached : (last : Bool) → last ≡ eqb (i + 1) (storesOf g (replay g v))
+          → Reached (suc i) (stepMade o (homeStep here v empty (x .entry) h last (Recovering (i + 1)) empty))
+      unfolding homeStep
+      home-reached true q = store-reached _ refl (ap inState (phase-next true q)) refl refl
+      home-reached false q = store-reached _ refl (ap inState (phase-next false q)) refl refl
+
+    place-reached : (p : Place) → SoundPlace g p → Reached (suc i) (stepMade o (recoverPlace here v empty i p))
+    place-reached (storeOf x h) s = home-reached x h (s .0) (s .1) (eqb (i + 1) (storesOf g (replay g v))) refl
+
+    one-more : Reached (suc i) (oneMore o)
+    one-more =
+        subst (λ (x : StepResult). Reached (suc i) (stepMade o x))
+        (sym ((λ j. stepOf (state-here j) v (R .staging j)) ∙ steps)) (place-reached (placeAt g v i) place)
+
+  starts : Reached 0 (noStep (openedState g v₀) v₀ empty)
+  starts = record { stores = refl; state = ap inState (first (ℕ-discrete total 0)); sized = refl; sections = λ k l. refl; staging = refl }
+    where
+      first : Dec (total ≡ 0) → phaseFor total ≡ phaseAfter 0
+      first (yes z) = rw (eq-eqb total 0 z, eq-eqb 0 total (sym z))
+      first (no z) = rw (ne-eqb total 0 z, ne-eqb 0 total (λ q. z (sym q)))
+
+  reached : (i : ℕ) → i ≤ total → Reached i (advanceOf i (openedState g v₀) v₀ empty)
+  unfolding advanceFrom
+  reached zero l = starts
+  reached (suc i) l = one-more i _ (omega arith) (reached i (omega arith))
+
+  ends-after : EndsAfter total (openedState g v₀) v₀ empty
+  ends-after k l =
+      let R = reached k l in
+      (R .stores, ap (λ (s : State). isFilling (s .phase)) (R .state) ∙ filling-when (eqb k total))
+    where
+      filling-when : (b : Bool) → isFilling (pick b Filling (Recovering k)) ≡ b
+      filling-when true = refl
+      filling-when false = refl
+
+  -- ---- what the last step leaves
+
+  abbrev left : AdvanceResult
+  left = advanceOf total (openedState g v₀) v₀ empty
+
+  left-state : left .state ≡ inState Filling
+  left-state = reached total (omega arith) .state ∙ ap (λ (b : Bool). inState (pick b Filling (Recovering total))) (eq-eqb total total refl)
+
+  -- a read of a filling volume with an empty batch is refused by the tag alone
+  module _ (v : List ℕ) (sized : length v ≡ length v₀) (i : ℕ) (low : i < g .provided) where
+    abbrev fits : Bool
+    fits = same (tagAt g v i) (tagOf (g .width) i (sectorAt v (dataAt g i)))
+
+    abbrev readWith : List ℕ → Bool → ReadResult
+    readWith b f = readBy (tagOf (g .width)) (inState Filling) v empty i b (pick (not f) (refused (TagMismatch i)) passed)
+
+    by-tag : (b : List ℕ) → length b ≡ 512 → readOf (tagOf (g .width)) (inState Filling) v empty i b ≡ readWith b fits
+    unfolding readOf
+    by-tag b z =
+        rw (state-ok Filling refl, volume-ok Filling v sized refl, staging-ok, eq-eqb (length b) 512 z, lt-leb (g .provided) i low)
+
+    bad-by-tag : isBad (inState Filling) v empty i ≡ not fits
+    unfolding isBad
+    bad-by-tag =
+        ap (λ (o : ReadResult). not (readTaken (o .answer)) && ltb i (g .provided)) (by-tag (replicate 512 0) (length-replicate {A = ℕ} 512 0))
+        ∙ ap (λ (b : Bool). not (readTaken (readWith (replicate 512 0) fits .answer)) && b) (lt-ltb i (g .provided) low)
+        ∙ taken fits
+      where
+        taken : (f : Bool) → not (readTaken (readWith (replicate 512 0) f .answer)) && true ≡ not f
+        taken true = refl
+        taken false = refl
+
+  bad-left : BadMeansTag (left .state) (left .volume) (left .staging)
+  bad-left =
+      subst (λ (s : State). BadMeansTag s (left .volume) (left .staging)) (sym left-state)
+      (subst (λ (st : List ℕ). BadMeansTag (inState Filling) (left .volume) st) (sym (reached total (omega arith) .staging))
+      (bad-by-tag (left .volume) (reached total (omega arith) .sized)))
+
+-- ---- what an open that is taken says of the volume
+
+-- where rules that only refuse lead to a pass, none is met, and what follows them passes
+rules-pass : (rows : List (Bool × Verdict)) (z : Verdict) → NoneAnswers rows passed → firstMet rows z ≡ passed → Unmet rows × (z ≡ passed)
+rules-pass rows z none e =
+    let u : Unmet rows = unmet rows passed none (go (firstMet rows passed) refl) in
+    (u, sym (passes rows z u) ∙ e)
+  where
+    go : (w : Verdict) → firstMet rows passed ≡ w → firstMet rows passed ≡ passed
+    go passed q = q
+    go (refused x) q = absurd (refusal-no-pass x (sym (met rows (refused x) passed z (refusal-no-pass x) q) ∙ e))
+
+open-refuses : (g : Layout) (r : ℕ) (v st : List ℕ) → NoneAnswers (openRows g r v st) passed
+open-refuses g r v st =
+    let no = refusal-no-pass in
+    (no _, (no _, (no _, (no _, (no _, (no _, (no _, (no _, (no _, tt)))))))))
+
+module _ (tag : Tag) (r : ℕ) (v st : List ℕ) where
+  abbrev g : Layout
+  g = layoutIn r (superblockAt r v)
+
+  abbrev verdict : Verdict
+  verdict = firstMet (openRows g r v st) (entriesVerdict tag g (replay g v))
+
+  module _ (taken : verdict ≡ passed) where
+    rows-passed : Unmet (openRows g r v st) × (entriesVerdict tag g (replay g v) ≡ passed)
+    rows-passed = rules-pass (openRows g r v st) (entriesVerdict tag g (replay g v)) (open-refuses g r v st) taken
+
+    g-ok : layoutOk g ≡ true
+    g-ok = valid-layout r (superblockAt r v) (not-false _ (rows-passed .0 .1 .1 .1 .1 .0))
+
+    v-loan : volumeLoanOk v ≡ true
+    v-loan = not-false _ (rows-passed .0 .0)
+
+    v-room : needed g * 512 ≤ length v
+    v-room = ltb-false (length v) (needed g * 512) (rows-passed .0 .1 .1 .1 .1 .1 .0)
+
+    v-entries : Every (Sound g) (replay g v)
+    v-entries = entries-sound tag g (replay g v) (replay-complete g g-ok v v-room) (rows-passed .1)
+
+    opens : openOf tag r v st ≡ openBy g v st passed
+    unfolding openWith
+    opens = ap (openBy g v st) taken
+
+    abbrev stores : ℕ
+    stores = storesOf g (replay g v)
+
+    abbrev last : AdvanceResult
+    last = advanceOf stores (openedState g v) v (emptySection (g .width))
+
+    open-ends : EndsAfter stores (openedState g v) v (emptySection (g .width))
+    open-ends = ends-after g g-ok v v-loan v-room v-entries
+
+    last-fills : last .state .phase ≡ Filling
+    last-fills = ap (λ (s : State). s .phase) (left-state g g-ok v v-loan v-room v-entries)
+
+    last-bad : BadMeansTag (last .state) (last .volume) (last .staging)
+    last-bad = bad-left g g-ok v v-loan v-room v-entries
+
+  -- only an open that passed its rules answers so
+  opened-passed : (s : State) (n : ℕ) → openOf tag r v st .answer ≡ Opened s n → verdict ≡ passed
+  unfolding openWith
+  opened-passed s n = go verdict
+    where
+      go : (w : Verdict) → openBy g v st w .answer ≡ Opened s n → w ≡ passed
+      go passed e = refl
+      go (refused x) e = absurd (let z : _≡_ {A = ℕ} 0 1 = cc in omega arith)
+
+  recovered-passed : (s : State) (n : ℕ) → recoverFrom v (openOf tag r v st) .answer ≡ recovering.Recovered s n → verdict ≡ passed
+  unfolding openWith
+  recovered-passed s n = go verdict
+    where
+      go : (w : Verdict) → recoverFrom v (openBy g v st w) .answer ≡ recovering.Recovered s n → w ≡ passed
+      go passed e = refl
+      go (refused x) e = absurd (let z : _≡_ {A = ℕ} 0 1 = cc in omega arith)
+
+  open-counts : (s : State) (n : ℕ) → openOf tag r v st .answer ≡ Opened s n
+      → (n ≡ 2 * length (replay (s .layout) v)) × EndsAfter n s v (openOf tag r v st .staging)
+  open-counts s n e =
+      let taken : verdict ≡ passed = opened-passed s n e in
+      let a : Opened s n ≡ Opened (openedState g v) (storesOf g (replay g v)) = sym e ∙ ap (λ (o : OpenResult). o .answer) (opens taken) in
+      let es : s ≡ openedState g v = cc in
+      let en : n ≡ storesOf g (replay g v) = cc in
+      rw (es, en, opens taken) (stores-twice g (replay g v), open-ends taken)
+
+-- ---- the claims
+
+pub ends : Ends
+ends = open-counts
+
+pub finishes : Finishes
+unfolding recoverOf
+finishes r v st s n e =
+    let tag : Tag = tagOf (layoutIn r (superblockAt r v) .width) in
+    let taken : verdict tag r v st ≡ passed = recovered-passed tag r v st s n e in
+    let o : AdvanceResult = last tag r v st taken in
+    let is : recoverOf r v st ≡ recovered (stores tag r v st taken) o = ap (recoverFrom v) (opens tag r v st taken) in
+    let a : recovering.Recovered s n ≡ recovering.Recovered (o .state) (stores tag r v st taken) = sym e ∙ ap (λ (x : RecoverResult). x .answer) is in
+    let es : s ≡ o .state = cc in
+    subst (Finished r v st) (sym es)
+    (record {
+      filling = last-fills tag r v st taken;
+      bad = subst (λ (x : RecoverResult). BadMeansTag (o .state) (x .volume) (x .staging)) (sym is) (last-bad tag r v st taken);
+    })

@@ -1,0 +1,37 @@
+#!/usr/bin/env bash
+# Makes the sample images in the folder that is named, with gaffreel, which must be on the PATH. All have document 01's example layout: T 32, N 16,
+# S 1, P 16; 120 sectors. Beside each image here stands what the bench program prints for it.
+#
+#   fresh            as format leaves it
+#   replay           three sectors written, and a power cut after the 88th store: the batch is in the journal, and not in its place yet
+#   torn             a sector written, then again, and a cut after 40 stores of that: the section is torn, and the older data is kept
+#   two_bad_sectors  two sectors written; then a byte of sector 3's data and a byte of sector 12's tag damaged, which no replay mends
+set -euo pipefail
+cd "$1"
+
+# Sectors of one byte: stock BYTE COUNT.
+stock() {
+    head -c $(($2 * 512)) /dev/zero | tr '\0' "$1"
+}
+
+# Sets a byte of a file: damage FILE OFFSET BYTE.
+damage() {
+    printf '%s' "$3" | dd of="$1" bs=1 seek="$2" conv=notrunc status=none
+}
+
+{
+    gaffreel format fresh.img
+
+    cp fresh.img replay.img
+    stock a 3 | gaffreel write replay.img 5 --cut-after 88
+
+    cp fresh.img torn.img
+    stock a 1 | gaffreel write torn.img 5
+    stock b 1 | gaffreel write torn.img 5 --cut-after 40
+
+    cp fresh.img two_bad_sectors.img
+    stock a 2 | gaffreel write two_bad_sectors.img 0
+    # Sector 3 lies at 96 + 8 + 3; the tag of sector 12 starts at byte 96 × 512 + 12 × 32.
+    damage two_bad_sectors.img $((107 * 512 + 100)) x
+    damage two_bad_sectors.img $((96 * 512 + 12 * 32 + 31)) x
+} >/dev/null
