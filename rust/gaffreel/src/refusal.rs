@@ -190,7 +190,7 @@ impl fmt::Display for Refusal {
             ),
             Refusal::VolumeTooShort { needed } => write!(
                 f,
-                "the volume is shorter than its layout: lend one of at least {needed} sectors"
+                "the volume is shorter than its layout: it must have at least {needed} sectors"
             ),
             Refusal::Sector => f.write_str(
                 "the volume has no such sector: name one below the number that it provides",

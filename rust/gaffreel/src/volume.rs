@@ -1,7 +1,10 @@
 //! A tagged volume with a journal.
 //!
 //! A volume, a staging section and a sector are lent as bytes. Each call tests what it was given, and after a refusal the
-//! state and all lent bytes are as they were; only [`advance`] keeps the steps before the refused one.
+//! state and all lent bytes are as they were; only [`advance`] keeps the steps before the refused one, and counts them.
+//!
+//! [`Volume`] keeps bytes, state and staging together. The functions are the C interface's calls as they are, for a caller that
+//! keeps the three itself.
 //!
 //! A caller that has only a volume asks [`query`] how long staging must be, then calls [`open`]; [`step`] or [`advance`]
 //! finish the recovery. While the volume is filling, [`write()`] takes sectors into a batch; [`flush`] begins to commit it,
@@ -31,13 +34,17 @@
 //! # }
 //! ```
 
+mod held;
 mod state;
 
+pub use held::{Sector, Volume};
 pub use state::{Layout, Phase, State, LAYOUT_LENGTH, STATE_LENGTH};
 
 use crate::ffi;
 use crate::refusal::Refusal;
 use state::numbers;
+use std::error::Error;
+use std::fmt;
 
 /// A sector's length in bytes.
 pub const SECTOR_LENGTH: usize = 512;
@@ -105,6 +112,37 @@ pub struct Advanced {
     /// Whether a step acknowledged the batch.
     pub acknowledged: bool,
 }
+
+/// So many steps of which one is refused: the steps before it are kept.
+#[derive(Clone, Copy, Debug, PartialEq, Eq)]
+pub struct Stopped {
+    /// Why the step was refused.
+    pub refusal: Refusal,
+    /// How many stores were made before it.
+    pub stores: u64,
+    /// Whether a step before it acknowledged the batch.
+    pub acknowledged: bool,
+}
+
+impl From<Stopped> for Refusal {
+    fn from(stopped: Stopped) -> Refusal {
+        stopped.refusal
+    }
+}
+
+impl fmt::Display for Stopped {
+    fn fmt(&self, f: &mut fmt::Formatter<'_>) -> fmt::Result {
+        let plural = if self.stores == 1 { "" } else { "s" };
+        write!(f, "stopped after {} store{plural}", self.stores)?;
+        if self.acknowledged {
+            f.write_str(", the batch acknowledged")?;
+        }
+        write!(f, ": {}", self.refusal)
+    }
+}
+
+// The refusal's text is part of the message, so there is no source that would say it again.
+impl Error for Stopped {}
 
 /// Makes a volume whose superblock is still zero: every sector provided is zero and has its tag. The reserved sectors
 /// and those behind the last run stay as they are.
@@ -187,24 +225,31 @@ pub fn step(state: &mut State, volume: &mut [u8], staging: &mut [u8]) -> Result<
 /// Takes so many steps, one after the other. From the first on that stores nothing, all give the same: so a number
 /// above the stores still to come finishes a recovery, or a commit and its write-back.
 ///
-/// After a refusal state, volume and staging are as the steps before the refused one left them. If the phase was
-/// committing and is no longer, the batch is acknowledged.
+/// After a refusal state, volume and staging are as the steps before the refused one left them, and [`Stopped`] says how
+/// many stores they made and whether one acknowledged the batch.
 pub fn advance(
     state: &mut State,
     volume: &mut [u8],
     staging: &mut [u8],
     steps: u64,
-) -> Result<Advanced, Refusal> {
+) -> Result<Advanced, Stopped> {
     let reply = Reply::on(state, |state, answer| {
         ffi::volume_advance(state, volume, staging, size(steps), answer)
     });
-    let last = reply.stepped()?;
     let [.., stores, acknowledged] = reply.numbers;
-    Ok(Advanced {
-        last,
-        stores,
-        acknowledged: acknowledged != 0,
-    })
+    let acknowledged = acknowledged != 0;
+    match reply.stepped() {
+        Ok(last) => Ok(Advanced {
+            last,
+            stores,
+            acknowledged,
+        }),
+        Err(refusal) => Err(Stopped {
+            refusal,
+            stores,
+            acknowledged,
+        }),
+    }
 }
 
 /// Copies out the newest data of a sector: the batch's, else the volume's if its tag fits. `out` is one sector.

@@ -1,7 +1,9 @@
-//! The proved SHA-256 against the reference: answers, digests and every byte of the states.
+//! The proved SHA-256 against the reference: answers, digests and every byte of the states. Whole messages of each short
+//! length and of long ones; messages in two pieces, cut at each place, and in many; states of any bytes, and totals around
+//! the limit; buffers of wrong lengths.
 
 use gaffreel::{ffi, sha256, Sha256, DIGEST_LENGTH, STATE_LENGTH};
-use random::{cases, Lent, Random};
+use random::{cases, count_compared, Lent, Random, Reached};
 use reference::sha256::{digest, State, LIMIT};
 
 const DONE: u32 = 0;
@@ -31,6 +33,7 @@ impl Pair {
             reference: State::new(),
         };
         pair.same_state();
+        count_compared();
         pair
     }
 
@@ -45,11 +48,13 @@ impl Pair {
         assert_eq!(self.proved.to_bytes(), state_bytes(&self.reference));
     }
 
-    fn update(&mut self, piece: &[u8]) {
+    fn update(&mut self, piece: &[u8]) -> Result<(), u32> {
         let answer = self.proved.update(piece).map_err(|r| r.number());
         let expected = self.reference.update(piece).map_err(|r| r.number());
         assert_eq!(answer, expected);
         self.same_state();
+        count_compared();
+        answer
     }
 
     /// Closes at the C interface, so that the digest's buffer is seen after a refusal too.
@@ -63,11 +68,13 @@ impl Pair {
         let finished = self.proved.finish().map_err(|r| r.number());
         let expected = self.reference.finish().map_err(|r| r.number());
         assert_eq!(finished, expected);
+        count_compared();
     }
 }
 
 fn same_digest(message: &[u8]) {
     assert_eq!(sha256(message).ok(), digest(message).ok());
+    count_compared();
 }
 
 #[test]
@@ -102,8 +109,8 @@ fn each_cut_in_two() {
             let message = random.bytes(length);
             for place in 0..=length {
                 let mut pair = Pair::new();
-                pair.update(&message[..place]);
-                pair.update(&message[place..]);
+                assert_eq!(pair.update(&message[..place]), Ok(()));
+                assert_eq!(pair.update(&message[place..]), Ok(()));
                 pair.finish();
             }
         }
@@ -117,7 +124,7 @@ fn in_pieces(random: &mut Random, message: &[u8], longest: usize) {
     while !rest.is_empty() {
         let length = random.length(0..=longest.min(rest.len()));
         let (piece, after) = rest.split_at(length);
-        pair.update(piece);
+        assert_eq!(pair.update(piece), Ok(()));
         pair.finish();
         rest = after;
     }
@@ -169,15 +176,17 @@ fn any_state(random: &mut Random) -> State {
 
 #[test]
 fn any_states() {
+    let mut reached = Reached::new();
     cases(200_000, |random| {
         let mut pair = Pair::of_state(any_state(random));
         pair.finish();
         for _ in 0..2 {
             let length = random.length(0..=200);
-            pair.update(&random.bytes(length));
+            reached.add(pair.update(&random.bytes(length)));
             pair.finish();
         }
     });
+    reached.assert_each(50_000, [Ok(()), Err(REFUSED)]);
 }
 
 /// Pieces that take the total to the limit's neighbourhood, each length and each count there.
@@ -189,7 +198,8 @@ fn each_total_near_the_limit() {
                 let mut state = any_state(random);
                 state.count = total - length as u64;
                 let mut pair = Pair::of_state(state);
-                pair.update(&random.bytes(length));
+                let answer = pair.update(&random.bytes(length));
+                assert_eq!(answer.is_ok(), total <= LIMIT);
                 pair.finish();
             }
         }
@@ -221,6 +231,7 @@ fn refused(random: &mut Random, length: usize, call: impl FnOnce(&mut [u8]) -> u
     let before = lent.clone();
     assert_eq!(call(lent.buffer()), REFUSED);
     assert_eq!(lent, before);
+    count_compared();
 }
 
 #[test]

@@ -1,13 +1,16 @@
 //! The proved hash tree against the reference: answers, failing levels, and every byte of trees, root digests and buffers
-//! that a refusal leaves.
+//! that a refusal leaves. `builds`, `largest_trees`, `blocks_of_built_images`: trees and blocks that are taken. `damages`:
+//! each level that may fail. `refused_verifications`, `refused_builds`: each refusal, and several at once.
 
 use gaffreel::tree::{self, BLOCK_LENGTH, LONGEST_SALT, MOST_BLOCKS};
 use gaffreel::{ffi, Refusal, DIGEST_LENGTH};
-use random::{cases, Lent, Random};
+use random::{cases, count_compared, Lent, Random, Reached};
 use reference::tree as reference;
 
 const DONE: u32 = 0;
 const WRONG_LENGTH: u32 = 1;
+const OUT_OF_RANGE: u32 = 2;
+const MISMATCH: u32 = 12;
 const LEVEL_LENGTH: usize = 4;
 
 /// Builds by both, and compares answer, tree and root digest.
@@ -18,7 +21,7 @@ fn same_build(
     image: &[u8],
     tree_length: usize,
     root_length: usize,
-) {
+) -> u32 {
     let mut tree = Lent::new(random, tree_length);
     let mut root = Lent::new(random, root_length);
     let mut expected_tree = tree.clone();
@@ -39,6 +42,8 @@ fn same_build(
     assert_eq!(root, expected_root);
     // A tree that differs is too long to print.
     assert!(tree == expected_tree);
+    count_compared();
+    number
 }
 
 /// An image with its tree, and what is verified against it.
@@ -55,32 +60,18 @@ struct Case {
 impl Case {
     /// Verifies by both, and compares number and level.
     fn same_verify(&self, random: &mut Random) -> u32 {
-        self.same_verify_with_level_length(random, LEVEL_LENGTH)
+        self.same_verify_with_level_length(random, LEVEL_LENGTH).0
     }
 
-    fn same_verify_with_level_length(&self, random: &mut Random, level_length: usize) -> u32 {
+    /// The same, and gives what the level's buffer has.
+    fn same_verify_with_level_length(
+        &self,
+        random: &mut Random,
+        level_length: usize,
+    ) -> (u32, Vec<u8>) {
         let mut level = Lent::new(random, level_length);
         let mut expected_level = level.clone();
-        let expected = reference::verify(
-            &self.block,
-            self.index,
-            &self.tree,
-            self.count,
-            &self.salt,
-            &self.root,
-        );
-        let expected_number = match expected {
-            _ if level_length != LEVEL_LENGTH => WRONG_LENGTH,
-            Ok(()) => DONE,
-            Err(refusal) => {
-                if let reference::Refusal::Mismatch(level) = refusal {
-                    expected_level
-                        .buffer()
-                        .copy_from_slice(&level.to_le_bytes());
-                }
-                refusal.number()
-            }
-        };
+        let expected_number = self.expected(expected_level.buffer());
         let number = ffi::tree_verify(
             &self.block,
             self.index,
@@ -90,8 +81,33 @@ impl Case {
             &self.root,
             level.buffer(),
         );
-        assert_eq!((number, level), (expected_number, expected_level));
-        number
+        assert_eq!((number, &level), (expected_number, &expected_level));
+        count_compared();
+        (number, level.bytes().to_vec())
+    }
+
+    /// The number that the reference gives, and the level, if one fails.
+    fn expected(&self, level: &mut [u8]) -> u32 {
+        if level.len() != LEVEL_LENGTH {
+            return WRONG_LENGTH;
+        }
+        let verified = reference::verify(
+            &self.block,
+            self.index,
+            &self.tree,
+            self.count,
+            &self.salt,
+            &self.root,
+        );
+        match verified {
+            Ok(()) => DONE,
+            Err(refusal) => {
+                if let reference::Refusal::Mismatch(failing) = refusal {
+                    level.copy_from_slice(&failing.to_le_bytes());
+                }
+                refusal.number()
+            }
+        }
     }
 }
 
@@ -147,7 +163,8 @@ fn builds() {
         let salt = any_salt(random);
         let image = random.bytes(count * BLOCK_LENGTH);
         let length = tree::length(count).expect("in range");
-        same_build(random, count, &salt, &image, length, DIGEST_LENGTH);
+        let number = same_build(random, count, &salt, &image, length, DIGEST_LENGTH);
+        assert_eq!(number, DONE);
     });
 }
 
@@ -273,6 +290,7 @@ fn misuse(random: &mut Random, case: &mut Case) {
 
 #[test]
 fn damages() {
+    let mut reached = Reached::new();
     cases(400, |random| {
         let count = any_count(random);
         let (_, good) = built(random, count);
@@ -281,14 +299,19 @@ fn damages() {
             for _ in 0..random.length(1..=3) {
                 damage(random, &mut case);
             }
-            case.same_verify(random);
+            let (number, level) = case.same_verify_with_level_length(random, LEVEL_LENGTH);
+            reached.add((number, if number == MISMATCH { level } else { vec![] }));
         }
     });
+    let levels = [-1_i32, 0, 1].map(|level| (MISMATCH, level.to_le_bytes().to_vec()));
+    reached.assert_each(100, levels);
+    reached.assert_each(100, [(DONE, vec![])]);
 }
 
 /// Several rules may be met: the first decides.
 #[test]
 fn refused_verifications() {
+    let mut reached = Reached::new();
     cases(400, |random| {
         let count = any_count(random);
         let (_, good) = built(random, count);
@@ -304,14 +327,17 @@ fn refused_verifications() {
                 0 => wrong_length(random, LEVEL_LENGTH),
                 _ => LEVEL_LENGTH,
             };
-            case.same_verify_with_level_length(random, level_length);
+            let (number, _) = case.same_verify_with_level_length(random, level_length);
+            reached.add(number);
         }
     });
+    reached.assert_each(100, [DONE, WRONG_LENGTH, OUT_OF_RANGE, MISMATCH]);
 }
 
 /// Several rules may be met: the first decides.
 #[test]
 fn refused_builds() {
+    let mut reached = Reached::new();
     cases(5_000, |random| {
         let good_count = random.length(1..=5);
         let mut count = good_count;
@@ -330,8 +356,20 @@ fn refused_builds() {
             }
         }
         let image = random.bytes(image_length);
-        same_build(random, count, &salt, &image, tree_length, root_length);
+        let number = same_build(random, count, &salt, &image, tree_length, root_length);
+        reached.add(number);
     });
+    reached.assert_each(1_000, [WRONG_LENGTH, OUT_OF_RANGE]);
+}
+
+fn same_refusal(refusal: Refusal, expected: reference::Refusal) {
+    assert_eq!(refusal.number(), expected.number());
+    let values = match expected {
+        reference::Refusal::Mismatch(level) => vec![i128::from(level)],
+        _ => vec![],
+    };
+    assert_eq!(refusal.values(), values);
+    assert!(refusal.to_string().contains(": "));
 }
 
 /// The safe wrapper's refusals have the number and values of the reference's, and say what to do.
@@ -360,17 +398,10 @@ fn wrapper_refusals() {
         );
         match (answer, expected) {
             (Ok(()), Ok(())) => {}
-            (Err(refusal), Err(expected)) => {
-                assert_eq!(refusal.number(), expected.number());
-                let values = match expected {
-                    reference::Refusal::Mismatch(level) => vec![i128::from(level)],
-                    _ => vec![],
-                };
-                assert_eq!(refusal.values(), values);
-                assert!(refusal.to_string().contains(": "));
-            }
+            (Err(refusal), Err(expected)) => same_refusal(refusal, expected),
             (answer, expected) => panic!("{answer:?}, not {expected:?}"),
         }
+        count_compared();
     });
     let refused = tree::build(0, b"", b"", &mut []);
     assert_eq!(refused, Err(Refusal::OutOfRange));

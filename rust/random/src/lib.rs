@@ -1,4 +1,8 @@
-//! Random test cases, the same in each run, and buffers to lend.
+//! Random test cases, the same in each run, buffers to lend, and counts of what was reached.
+
+mod reached;
+
+pub use reached::{count_compared, Reached};
 
 use std::env;
 use std::ops::RangeInclusive;
@@ -6,14 +10,18 @@ use std::ops::RangeInclusive;
 /// Set to a seed, has each test run the case of that seed alone.
 const SEED_VARIABLE: &str = "GAFFREEL_TEST_SEED";
 
+/// Set to a whole number, has each test run so many times its number of cases, each with a seed of its own.
+const TIMES_VARIABLE: &str = "GAFFREEL_TEST_TIMES";
+
 /// The generator xorshift64* of Marsaglia and Vigna.
 pub struct Random {
     state: u64,
 }
 
 impl Random {
-    /// Multiplied by an odd constant, so that seeds next to each other give unlike numbers; the state must not be 0.
-    fn from_seed(seed: u64) -> Random {
+    /// The numbers that follow from a seed.
+    pub fn from_seed(seed: u64) -> Random {
+        // Multiplied by an odd constant, so that seeds next to each other give unlike numbers; the state must not be 0.
         let state = seed.wrapping_mul(0x9e37_79b9_7f4a_7c15);
         Random {
             state: if state == 0 { 1 } else { state },
@@ -74,9 +82,11 @@ impl Lent {
 
     /// A buffer of these bytes.
     pub fn of(random: &mut Random, bytes: &[u8]) -> Lent {
-        let mut lent = Lent::new(random, bytes.len());
-        lent.buffer().copy_from_slice(bytes);
-        lent
+        let [before, after] = [(); 2].map(|()| random.bytes(Lent::MARGIN));
+        Lent {
+            memory: [&before, bytes, &after].concat(),
+            length: bytes.len(),
+        }
     }
 
     /// The buffer.
@@ -90,16 +100,41 @@ impl Lent {
     }
 }
 
-/// Runs a case for each seed from 1 to `count`, and prints the seed of one that fails.
+/// Runs a case for each seed from 1 to `count`, or to so many times that as is asked for, and prints the seed of one that
+/// fails. If none does, prints how many calls were compared.
 pub fn cases(count: u64, mut case: impl FnMut(&mut Random)) {
     let mut run = |seed| {
         let _printed = PrintedOnFailure(seed);
         case(&mut Random::from_seed(seed));
     };
-    match env::var(SEED_VARIABLE) {
-        Ok(seed) => run(seed.parse().expect("the seed is a number")),
-        Err(_) => (1..=count).for_each(run),
+    let before = reached::compared();
+    match single_seed() {
+        Some(seed) => run(seed),
+        None => (1..=count * times()).for_each(run),
     }
+    let calls = reached::compared() - before;
+    if calls > 0 {
+        println!("{calls} calls compared");
+    }
+}
+
+/// The seed of the only case to run, if one is asked for.
+pub fn single_seed() -> Option<u64> {
+    number_in(SEED_VARIABLE)
+}
+
+/// How many times the number of cases is to be run.
+fn times() -> u64 {
+    let times = number_in(TIMES_VARIABLE).unwrap_or(1);
+    assert!(times > 0, "{TIMES_VARIABLE}=0 would test nothing");
+    times
+}
+
+fn number_in(variable: &str) -> Option<u64> {
+    let number = env::var(variable).ok()?;
+    Some(number.parse().unwrap_or_else(|_| {
+        panic!("{variable} is not a whole number: {number}");
+    }))
 }
 
 struct PrintedOnFailure(u64);
@@ -107,7 +142,10 @@ struct PrintedOnFailure(u64);
 impl Drop for PrintedOnFailure {
     fn drop(&mut self) {
         if std::thread::panicking() {
-            eprintln!("the failing case has {SEED_VARIABLE}={}", self.0);
+            eprintln!(
+                "the failing case has {SEED_VARIABLE}={}: set, it is run alone, whatever {TIMES_VARIABLE} is",
+                self.0
+            );
         }
     }
 }

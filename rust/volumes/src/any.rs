@@ -78,7 +78,7 @@ pub fn any_section(random: &mut Random, layout: &Layout, geometry: &Geometry, id
 pub fn with_journal(random: &mut Random, layout: &Layout) -> Vec<u8> {
     let geometry = geometry(layout);
     let mut volume = formatted(layout, random.length(0..=1));
-    let mut id: u64 = random.pick(&[1, 1, 1, 5, 5, u64::MAX - 6]);
+    let mut id: u64 = random.pick(&[1, 1, 1, 5, 5, u64::MAX - 6, u64::MAX - 1]);
     let misplaced = random.number().is_multiple_of(3);
     for _ in 0..random.length(0..=geometry.sections.min(5) + 1) {
         let section = any_section(random, layout, &geometry, id);
@@ -88,12 +88,16 @@ pub fn with_journal(random: &mut Random, layout: &Layout) -> Vec<u8> {
         };
         put_section(&mut volume, &geometry, number, &section);
         if random.number().is_multiple_of(3) {
-            let sector = random.length(0..=geometry.section_sectors - 1);
+            let last = geometry.section_sectors - 1;
+            let any = random.length(0..=last);
+            let sector = random.pick(&[any, any, 0, last]);
             let torn = random.pick(&[0, id - 1, id, id.saturating_add(1), u64::MAX]);
             put_id(&mut volume, &geometry, number, sector, torn);
         }
         id = match random.number() % 8 {
             0 => id,
+            // In another place, an equal id.
+            3 | 4 if misplaced => id,
             1 => (id - 1).max(1),
             2 => any_number(random).max(1),
             _ => id.saturating_add(1),

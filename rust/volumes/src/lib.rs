@@ -1,6 +1,7 @@
 //! Volumes made byte by byte and at random, for tests and times.
 
 pub mod any;
+pub mod kinds;
 
 use reference::volume::{digest_of_sector, Geometry, Layout};
 
@@ -88,6 +89,13 @@ pub fn put_section(volume: &mut [u8], geometry: &Geometry, number: usize, sectio
 pub fn put_id(volume: &mut [u8], geometry: &Geometry, section: usize, sector: usize, id: u64) {
     let place = geometry.journal() + section * geometry.section_sectors + sector;
     volume[place * 512 + 504..][..8].copy_from_slice(&id.to_le_bytes());
+}
+
+/// Puts an id on all sectors of a section of the journal of a volume.
+pub fn put_ids(volume: &mut [u8], geometry: &Geometry, section: usize, id: u64) {
+    for sector in 0..geometry.section_sectors {
+        put_id(volume, geometry, section, sector, id);
+    }
 }
 
 /// An empty staging section.

@@ -2,46 +2,57 @@
 
 use crate::any_input::any_loans;
 use crate::by_reference::put_state;
-use crate::loans::{Loans, DONE};
+use crate::loans::{Buffers, Loans, DONE};
 use gaffreel::ffi;
 use gaffreel::volume::STATE_LENGTH;
-use random::{cases, Random};
+use random::{cases, count_compared, Random};
 use reference::volume::{self, Half, Layout, Phase, State};
 use volumes::any::{any_layout, any_section, small_layout, with_journal};
-use volumes::{empty_staging, formatted, geometry};
+use volumes::{empty_staging, formatted, geometry, section, Entry};
 
 /// What a step says that acknowledges the batch.
 const ACKNOWLEDGED: u64 = 1;
 
+/// The number where a sector is not provided.
+const SECTOR_RANGE: u32 = 6;
+
+/// A section of it has 88 sectors.
+const LAYOUT: Layout = Layout {
+    reserved: 0,
+    log2_run: 3,
+    tag_size: 32,
+    sections: 2,
+    provided: 9,
+};
+
 /// A step by the proved library: its number, and the first three of its answer.
-fn step(loans: &mut Loans) -> (u32, [u64; 3]) {
+fn step(lent: &mut Buffers) -> (u32, [u64; 3]) {
     let number = ffi::volume_step(
-        loans.state.buffer(),
-        loans.volume.buffer(),
-        loans.staging.buffer(),
-        loans.answer.buffer(),
+        lent.state.buffer(),
+        lent.volume.buffer(),
+        lent.staging.buffer(),
+        lent.answer.buffer(),
     );
-    let answer = loans.answer();
+    let answer = lent.answer();
     (number, [answer[0], answer[1], answer[2]])
 }
 
 /// Takes so many single steps, and advances by as many; all by the proved library.
 fn same_as_single_steps(loans: &Loans, steps: u64) {
-    let mut stepped = loans.clone();
+    let mut stepped = loans.lent().clone();
     let mut number = DONE;
     let mut expected = [0; 5];
     let (mut stores, mut acknowledged) = (0, 0);
     for _ in 0..steps {
         let (last, [first, second, third]) = step(&mut stepped);
         number = last;
-        expected = [first, second, third, 0, 0];
         if number == DONE {
             stores += first;
             acknowledged |= u64::from(third == ACKNOWLEDGED);
-            expected[3..].copy_from_slice(&[stores, acknowledged]);
         }
+        expected = [first, second, third, stores, acknowledged];
     }
-    let mut advanced = loans.clone();
+    let mut advanced = loans.lent().clone();
     let answer = ffi::volume_advance(
         advanced.state.buffer(),
         advanced.volume.buffer(),
@@ -52,7 +63,8 @@ fn same_as_single_steps(loans: &Loans, steps: u64) {
     assert_eq!(answer, number);
     assert_eq!(advanced.answer(), expected);
     advanced.answer = stepped.answer.clone();
-    advanced.assert_same(&stepped, "advance");
+    advanced.assert_same(&stepped, "single steps and", "advance");
+    count_compared();
 }
 
 /// A state that is sound on a volume, or nearly.
@@ -115,16 +127,9 @@ fn advance_of_any_input() {
 #[test]
 fn each_number_of_steps() {
     cases(1, |random| {
-        let layout = Layout {
-            reserved: 0,
-            log2_run: 3,
-            tag_size: 32,
-            sections: 2,
-            provided: 9,
-        };
-        let geometry = geometry(&layout);
+        let geometry = geometry(&LAYOUT);
         let staging = empty_staging(&geometry);
-        let mut loans = Loans::new(random, &formatted(&layout, 0), &staging);
+        let mut loans = Loans::new(random, &formatted(&LAYOUT, 0), &staging);
         assert_eq!(loans.open(0), DONE);
         for sector in [8, 3] {
             assert_eq!(loans.write(sector), DONE);
@@ -138,6 +143,36 @@ fn each_number_of_steps() {
             let stores = steps.min(92);
             let answer = advanced.answer();
             assert_eq!(answer[3..], [stores, u64::from(steps >= 88)]);
+        }
+    });
+}
+
+/// The same where the last entry names a sector that is not provided: an advance that is refused counts the stores before.
+#[test]
+fn each_number_of_steps_up_to_a_refused_one() {
+    cases(1, |random| {
+        let geometry = geometry(&LAYOUT);
+        let entries = [8, 3, 9].map(|sector| Entry::new(sector, 1));
+        let staging = section(&geometry, 0, &entries);
+        let mut loans = Loans::new(random, &formatted(&LAYOUT, 0), &staging);
+        loans.put_state(&State {
+            layout: LAYOUT,
+            phase: Phase::Committing { sector: 0 },
+            count: 3,
+            id: 1,
+        });
+        // 88 stores commit the batch, 4 write its first two entries back.
+        for steps in 0..=94 {
+            same_as_single_steps(&loans, steps);
+            let mut advanced = loans.clone();
+            let number = advanced.advance(steps);
+            let answer = advanced.answer();
+            assert_eq!(answer[3..], [steps.min(92), u64::from(steps >= 88)]);
+            if steps <= 92 {
+                assert_eq!(number, DONE);
+            } else {
+                assert_eq!((number, &answer[..3]), (SECTOR_RANGE, &[1, 2, 0][..]));
+            }
         }
     });
 }
@@ -159,18 +194,11 @@ fn whole_recoveries() {
 
         let mut loans = Loans::new(random, &volume, &staging);
         assert_eq!(loans.open(layout.reserved), DONE);
-        let number = ffi::volume_advance(
-            loans.state.buffer(),
-            loans.volume.buffer(),
-            loans.staging.buffer(),
-            usize::MAX,
-            loans.answer.buffer(),
-        );
-        assert_eq!(number, DONE);
+        assert_eq!(loans.advance(u64::MAX), DONE);
         assert_eq!(loans.answer(), [0, 0, 2, opened.stores_to_come, 0]);
-        assert!(loans.volume.bytes() == expected);
+        assert!(loans.lent().volume.bytes() == expected);
         let mut expected_state = [0; STATE_LENGTH];
         put_state(&mut expected_state, &state);
-        assert_eq!(loans.state.bytes(), expected_state);
+        assert_eq!(loans.lent().state.bytes(), expected_state);
     });
 }

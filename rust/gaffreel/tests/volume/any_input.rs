@@ -20,7 +20,7 @@ pub fn any_loans(random: &mut Random, layout: &Layout) -> Loans {
     loans.put_state(&state);
     if random.number().is_multiple_of(8) {
         let length = random.pick(&[0, 511, 513, 1024]);
-        loans.bytes = Lent::new(random, length);
+        loans.lend(|lent| &mut lent.bytes, &Lent::new(random, length));
     }
     loans
 }
@@ -52,7 +52,7 @@ fn any_steps(random: &mut Random) -> u64 {
 
 #[test]
 fn any_call() {
-    cases(2_500, |random| {
+    cases(5_000, |random| {
         let layout = any_layout(random);
         let loans = any_loans(random, &layout);
         loans.clone().format(&layout);
@@ -75,7 +75,7 @@ fn any_call() {
 fn one_call(random: &mut Random, loans: &mut Loans, layout: &Layout) {
     match random.number() % 16 {
         0..=4 => {
-            random.fill(loans.bytes.buffer());
+            loans.fill(random, |lent| &mut lent.bytes);
             loans.write(any_sector(random, layout));
         }
         5 | 6 => {
@@ -91,9 +91,7 @@ fn one_call(random: &mut Random, loans: &mut Loans, layout: &Layout) {
             loans.read(any_sector(random, layout));
         }
         _ => {
-            // State and staging are lost.
-            random.fill(loans.staging.buffer());
-            random.fill(loans.state.buffer());
+            loans.cut(random);
             loans.open(layout.reserved);
         }
     }
@@ -102,13 +100,13 @@ fn one_call(random: &mut Random, loans: &mut Loans, layout: &Layout) {
 /// A volume is opened, if it can be, and worked by calls in a row.
 #[test]
 fn calls_in_a_row() {
-    cases(400, |random| {
+    cases(1_000, |random| {
         let layout = small_layout(random);
         let volume = with_journal(random, &layout);
         let mut loans = Loans::new(random, &volume, &[]);
         assert_eq!(loans.query(layout.reserved), DONE);
         let length = loans.answer()[0] as usize;
-        loans.staging = Lent::new(random, length);
+        loans.lend(|lent| &mut lent.staging, &Lent::new(random, length));
         loans.open(layout.reserved);
         for _ in 0..30 {
             one_call(random, &mut loans, &layout);

@@ -1,7 +1,7 @@
 //! Buffers of wrong lengths, and state buffers of any bytes.
 
 use crate::by_reference::{holds_state, numbers_in, put_numbers};
-use crate::loans::Loans;
+use crate::loans::{Buffers, Loans};
 use gaffreel::volume::{State, MOST_SECTORS, STATE_LENGTH};
 use random::{cases, Lent, Random};
 use reference::volume::{self, Half, Layout, Phase};
@@ -52,15 +52,15 @@ fn each_call(random: &mut Random, loans: &Loans) {
     loans.clone().advance(random.pick(&[0, 1, 5, u64::MAX]));
     loans.clone().read(sector);
     let mut loans = loans.clone();
-    if loans.volume.bytes().len() >= 9 * 512 && random.number().is_multiple_of(2) {
+    if loans.lent().volume.bytes().len() >= 9 * 512 && random.number().is_multiple_of(2) {
         // Else the superblock is not zero.
-        loans.volume.buffer()[512..9 * 512].fill(0);
+        loans.put(|lent| &mut lent.volume, 512, &[0; 8 * 512]);
     }
     loans.format(&LAYOUT);
 }
 
 /// A random length other than `right`, often the one above or below.
-fn wrong_length(random: &mut Random, right: usize) -> usize {
+pub fn wrong_length(random: &mut Random, right: usize) -> usize {
     match random.number() % 5 {
         0 if right > 0 => right - 1,
         1 => right + 1,
@@ -71,29 +71,30 @@ fn wrong_length(random: &mut Random, right: usize) -> usize {
 }
 
 /// The same bytes as far as they go, and any behind them.
-fn resize(random: &mut Random, buffer: &mut Lent) {
+fn resized(random: &mut Random, buffer: &Lent) -> Lent {
     let length = wrong_length(random, buffer.bytes().len());
     let mut resized = random.bytes(length);
     for (byte, kept) in resized.iter_mut().zip(buffer.bytes()) {
         *byte = *kept;
     }
-    *buffer = Lent::of(random, &resized);
+    Lent::of(random, &resized)
 }
 
 #[test]
 fn wrong_lengths() {
-    cases(2_000, |random| {
+    cases(5_000, |random| {
         let mut loans = sound(random);
         for _ in 0..random.length(1..=2) {
-            let buffer = match random.number() % 8 {
-                0 | 1 => &mut loans.state,
-                2 | 3 => &mut loans.answer,
-                4 => &mut loans.layout,
-                5 => &mut loans.volume,
-                6 => &mut loans.staging,
-                _ => &mut loans.bytes,
+            let which: fn(&mut Buffers) -> &mut Lent = match random.number() % 8 {
+                0 | 1 => |lent| &mut lent.state,
+                2 | 3 => |lent| &mut lent.answer,
+                4 => |lent| &mut lent.layout,
+                5 => |lent| &mut lent.volume,
+                6 => |lent| &mut lent.staging,
+                _ => |lent| &mut lent.bytes,
             };
-            resize(random, buffer);
+            let resized = resized(random, which(&mut loans.lent().clone()));
+            loans.lend(which, &resized);
         }
         each_call(random, &loans);
     });
@@ -118,12 +119,14 @@ fn spoil_state(random: &mut Random, buffer: &mut [u8]) {
 
 #[test]
 fn states_of_any_bytes() {
-    cases(2_000, |random| {
+    cases(5_000, |random| {
         let mut loans = sound(random);
-        spoil_state(random, loans.state.buffer());
+        let mut state = loans.lent().state.bytes().to_vec();
+        spoil_state(random, &mut state);
         if random.number().is_multiple_of(16) {
-            random.fill(loans.state.buffer());
+            random.fill(&mut state);
         }
+        loans.put(|lent| &mut lent.state, 0, &state);
         each_call(random, &loans);
     });
 }
@@ -153,7 +156,7 @@ fn states_from_bytes() {
 fn volumes_around_the_limit() {
     cases(1, |random| {
         let good = sound(random);
-        let mut volume = good.volume.bytes().to_vec();
+        let mut volume = good.lent().volume.bytes().to_vec();
         for length in [
             MOST_SECTORS * 512 - 1,
             MOST_SECTORS * 512,
@@ -162,12 +165,15 @@ fn volumes_around_the_limit() {
         ] {
             volume.resize(length, 0x5a);
             let mut loans = good.clone();
-            loans.staging = Lent::of(random, &empty_staging(&geometry(&LAYOUT)));
-            loans.volume = Lent::of(random, &volume);
+            let staging = Lent::of(random, &empty_staging(&geometry(&LAYOUT)));
+            loans.lend(|lent| &mut lent.staging, &staging);
+            loans.lend(|lent| &mut lent.volume, &Lent::of(random, &volume));
             let fits = u32::from(length != MOST_SECTORS * 512);
             assert_eq!(loans.query(LAYOUT.reserved), fits);
             assert_eq!(loans.open(LAYOUT.reserved), fits);
-            loans.state = good.state.clone();
+            // Staging too: open made it an empty section.
+            loans.lend(|lent| &mut lent.state, &good.lent().state);
+            loans.lend(|lent| &mut lent.staging, &good.lent().staging);
             assert_eq!(loans.step(), fits);
             let number = loans.format(&LAYOUT);
             assert_eq!(number, if fits == 0 { 3 } else { 1 });

@@ -6,6 +6,23 @@ use reference::volume::{self, Flushed, Half, Layout, Phase, Refusal, Said, State
 
 const WRONG_LENGTH: u32 = 1;
 
+/// The places of a state's numbers behind those of its layout: the phase, the two of its place, the entries of the batch,
+/// the next id.
+pub const PHASE: usize = 5;
+pub const FIRST: usize = 6;
+pub const SECOND: usize = 7;
+pub const COUNT: usize = 8;
+pub const ID: usize = 9;
+
+/// The numbers of a state.
+pub type StateNumbers = [u64; 10];
+
+/// The numbers of the phases.
+pub const FILLING: u64 = 0;
+pub const COMMITTING: u64 = 1;
+pub const WRITING_BACK: u64 = 2;
+pub const RECOVERING: u64 = 3;
+
 /// The numbers that a call which is carried out leaves in the answer's buffer.
 type Numbers = [u64; 5];
 
@@ -32,8 +49,11 @@ pub fn volume_format(
 }
 
 pub fn volume_query(volume: &[u8], reserved: usize, layout: &mut [u8], answer: &mut [u8]) -> u32 {
-    if layout.len() != LAYOUT_LENGTH || answer.len() != ANSWER_LENGTH {
+    if answer.len() != ANSWER_LENGTH {
         return WRONG_LENGTH;
+    }
+    if layout.len() != LAYOUT_LENGTH {
+        return reply(answer, Err(Refusal::LengthOrState));
     }
     let queried = volume::query(volume, reserved as u64).map(|queried| {
         put_numbers(layout, &layout_numbers(&queried.layout));
@@ -105,12 +125,17 @@ pub fn volume_advance(
     if steps == 0 && answer.len() == ANSWER_LENGTH && holds_state(state) {
         return reply(answer, Ok([0; 5]));
     }
-    on(state, answer, |state| {
+    let mut counts = [0; 2];
+    let number = on(state, answer, |state| {
         let advanced = volume::advance(state, volume, staging, steps as u64);
-        let [stored, sector, said, ..] = step_numbers(advanced.last?);
-        let acknowledged = u64::from(advanced.acknowledged);
-        Ok([stored, sector, said, advanced.stores, acknowledged])
-    })
+        counts = [advanced.stores, u64::from(advanced.acknowledged)];
+        advanced.last.map(step_numbers)
+    });
+    // A refused advance has them too.
+    if answer.len() == ANSWER_LENGTH {
+        put_numbers(&mut answer[24..], &counts);
+    }
+    number
 }
 
 pub fn volume_read(
@@ -170,7 +195,8 @@ fn step_numbers(stepped: Stepped) -> Numbers {
     }
 }
 
-fn layout_numbers(layout: &Layout) -> [u64; 5] {
+/// The numbers of a layout, which are the first of a state.
+pub fn layout_numbers(layout: &Layout) -> [u64; 5] {
     [
         layout.reserved,
         layout.log2_run,

@@ -107,12 +107,14 @@ pub fn volume_advance(
     let advanced = on(state, |state| {
         volume::advance(state, volume, staging, steps as u64)
     })?;
-    let numbers = advanced.map(|advanced| {
-        let [stored, sector, said, ..] = step_numbers(advanced.last);
-        let acknowledged = u64::from(advanced.acknowledged);
-        [stored, sector, said, advanced.stores, acknowledged]
-    });
-    Some(reply(answer, numbers))
+    let (stores, acknowledged) = match advanced {
+        Ok(advanced) => (advanced.stores, advanced.acknowledged),
+        Err(stopped) => (stopped.stores, stopped.acknowledged),
+    };
+    let last = advanced.map(|advanced| step_numbers(advanced.last));
+    let number = reply(answer, last.map_err(Refusal::from));
+    put_numbers(&mut answer[24..], &[stores, u64::from(acknowledged)]);
+    Some(number)
 }
 
 pub fn volume_read(

@@ -1,7 +1,8 @@
-//! Short histories with a cut after every store, and after every store of the recovery that follows.
+//! Short histories with a cut after every store, and before and after every store of the recovery that follows; journals of
+//! one, two and three sections.
 
 use crate::loans::{Loans, DONE};
-use random::{cases, Random};
+use random::{cases, Random, Reached};
 use reference::volume::Layout;
 use volumes::{formatted, geometry};
 
@@ -20,14 +21,13 @@ const HISTORIES: [(u64, u64, Batches); 4] = [
 
 /// State and staging are lost, and the volume is opened again. Gives the stores to come.
 fn open(random: &mut Random, loans: &mut Loans, layout: &Layout) -> u64 {
-    random.fill(loans.state.buffer());
-    random.fill(loans.staging.buffer());
+    loans.cut(random);
     assert_eq!(loans.open(layout.reserved), DONE);
     loans.answer()[0]
 }
 
 fn write(random: &mut Random, loans: &mut Loans, sector: u64) {
-    random.fill(loans.bytes.buffer());
+    loans.fill(random, |lent| &mut lent.bytes);
     assert_eq!(loans.write(sector), DONE);
 }
 
@@ -43,25 +43,54 @@ fn read_all(loans: &mut Loans, layout: &Layout) {
     }
 }
 
-/// Cuts a copy here, recovers it, and goes on with one more batch.
-fn cut_here(random: &mut Random, loans: &Loans, layout: &Layout) {
+/// Cuts a copy here, recovers it, and goes on with one more batch. Gives the number of the recovery's stores.
+fn cut_here(random: &mut Random, loans: &Loans, layout: &Layout) -> u64 {
     let mut loans = loans.clone();
     let stores = open(random, &mut loans, layout);
-    for _ in 0..stores {
+    for store in 0..=stores {
         let mut again = loans.clone();
         assert_eq!(open(random, &mut again, layout), stores);
         advance_to_filling(&mut again);
-        assert_eq!(loans.step(), DONE);
+        read_all(&mut again, layout);
+        if store < stores {
+            assert_eq!(loans.step(), DONE);
+        }
     }
     read_all(&mut loans, layout);
     write(random, &mut loans, 0);
     assert_eq!(loans.flush(), DONE);
     advance_to_filling(&mut loans);
     open(random, &mut loans, layout);
+    stores
+}
+
+/// Works the batches on a fresh volume, and cuts before each and after each store. Gives the stores of each recovery.
+fn cut_everywhere(random: &mut Random, layout: &Layout, batches: Batches) -> Vec<u64> {
+    let staging = random.bytes(geometry(layout).staging_length());
+    let mut loans = Loans::new(random, &formatted(layout, 1), &staging);
+    let mut recoveries = vec![];
+    open(random, &mut loans, layout);
+    for batch in batches {
+        for sector in *batch {
+            write(random, &mut loans, *sector);
+        }
+        recoveries.push(cut_here(random, &loans, layout));
+        assert_eq!(loans.flush(), DONE);
+        loop {
+            assert_eq!(loans.step(), DONE);
+            recoveries.push(cut_here(random, &loans, layout));
+            if loans.answer()[2] == FILLING {
+                break;
+            }
+        }
+        read_all(&mut loans, layout);
+    }
+    recoveries
 }
 
 #[test]
 fn cut_after_each_store_of_short_histories() {
+    let mut reached = Reached::new();
     cases(1, |random| {
         for (tag_size, sections, batches) in HISTORIES {
             let layout = Layout {
@@ -71,24 +100,14 @@ fn cut_after_each_store_of_short_histories() {
                 sections,
                 provided: 10,
             };
-            let staging = random.bytes(geometry(&layout).staging_length());
-            let mut loans = Loans::new(random, &formatted(&layout, 1), &staging);
-            open(random, &mut loans, &layout);
-            for batch in batches {
-                for sector in *batch {
-                    write(random, &mut loans, *sector);
-                }
-                cut_here(random, &loans, &layout);
-                assert_eq!(loans.flush(), DONE);
-                loop {
-                    assert_eq!(loans.step(), DONE);
-                    cut_here(random, &loans, &layout);
-                    if loans.answer()[2] == FILLING {
-                        break;
-                    }
-                }
-                read_all(&mut loans, &layout);
+            for stores in cut_everywhere(random, &layout, batches) {
+                reached.add((sections, stores > 0));
             }
         }
     });
+    // With nothing to replay, and with something.
+    for sections in 1..=3 {
+        reached.assert_each(80, [(sections, false)]);
+        reached.assert_each(5, [(sections, true)]);
+    }
 }

@@ -46,7 +46,7 @@ fn formats() {
         assert_eq!(loans.open(layout.reserved), DONE);
         for sector in [0, random.number() % layout.provided, layout.provided - 1] {
             assert_eq!(loans.read(sector), DONE);
-            assert_eq!(loans.bytes.bytes(), [0; 512]);
+            assert_eq!(loans.lent().bytes.bytes(), [0; 512]);
         }
     });
 }

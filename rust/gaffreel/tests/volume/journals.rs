@@ -1,9 +1,10 @@
 //! Journals of any kind: opened, and replayed from any store on, also where open would refuse.
 
 use crate::loans::Loans;
-use random::{cases, Random};
+use random::{cases, Random, Reached};
 use reference::volume::{Geometry, Half, Layout, Phase, State};
 use volumes::any::{any_number, any_section, small_layout, with_journal};
+use volumes::kinds::{kinds, KINDS};
 use volumes::{empty_staging, formatted, geometry, put_id, put_section, section, Entry};
 
 /// Singly a few of the steps, then all that are left at once.
@@ -38,16 +39,21 @@ fn opened(random: &mut Random, volume: &[u8], layout: &Layout) {
 /// not fit.
 #[test]
 fn opens() {
-    cases(1_500, |random| {
+    let mut reached = Reached::new();
+    cases(6_000, |random| {
         let layout = small_layout(random);
         let volume = with_journal(random, &layout);
+        for kind in kinds(&volume, &geometry(&layout)) {
+            reached.add(kind);
+        }
         opened(random, &volume, &layout);
     });
+    reached.assert_each(100, KINDS);
 }
 
 #[test]
 fn recoveries_from_any_store() {
-    cases(600, |random| {
+    cases(3_000, |random| {
         let layout = small_layout(random);
         let volume = with_journal(random, &layout);
         let staging = empty_staging(&geometry(&layout));
@@ -94,7 +100,7 @@ fn with_many_sections(random: &mut Random, layout: &Layout, geometry: &Geometry)
 
 #[test]
 fn many_sections() {
-    cases(24, |random| {
+    cases(60, |random| {
         let layout = Layout {
             sections: random.pick(&[5, 17, 64]),
             ..small_layout(random)
@@ -112,7 +118,7 @@ fn many_sections() {
 /// Staging of any kind is committed and written back from any place on, with ids up to the last.
 #[test]
 fn commits_and_write_backs() {
-    cases(1_000, |random| {
+    cases(4_000, |random| {
         let layout = small_layout(random);
         let geometry = geometry(&layout);
         let staging = match random.number() % 3 {

@@ -1,18 +1,20 @@
 //! What is lent to a call. Each call is made three times: by the proved library through the C interface, by the safe
-//! wrapper over it, and by the reference. Number, answer, state and all bytes of all buffers must agree.
+//! wrapper over it, and by the reference. Number, answer, state and all bytes of all buffers must agree after each call.
+//! The three have buffers of their own, which stay equal from call to call, so that nothing is copied between calls.
 
 use crate::by_reference::{numbers_in, put_state};
 use crate::{by_reference, by_wrapper};
 use gaffreel::ffi;
 use gaffreel::volume::{ANSWER_LENGTH, LAYOUT_LENGTH, SECTOR_LENGTH, STATE_LENGTH};
-use random::{Lent, Random};
+use random::{count_compared, Lent, Random};
 use reference::volume::{Layout, State};
 
 /// The number of a call that was carried out.
 pub const DONE: u32 = 0;
 
+/// The buffers of one of the three.
 #[derive(Clone)]
-pub struct Loans {
+pub struct Buffers {
     pub state: Lent,
     pub volume: Lent,
     pub staging: Lent,
@@ -22,176 +24,34 @@ pub struct Loans {
     pub answer: Lent,
 }
 
+#[derive(Clone)]
+pub struct Loans {
+    proved: Buffers,
+    wrapped: Buffers,
+    expected: Buffers,
+}
+
 /// Makes a call by the three, and compares.
 macro_rules! same {
-    ($loans:ident, $call:ident($($argument:expr),*)) => {
+    ($loans:ident, $lent:ident, $call:ident($($argument:expr),*)) => {
         $loans.same(
             stringify!($call),
-            |$loans| ffi::$call($($argument),*),
-            |$loans| by_reference::$call($($argument),*),
-            |$loans| by_wrapper::$call($($argument),*),
+            |$lent| ffi::$call($($argument),*),
+            |$lent| by_reference::$call($($argument),*),
+            |$lent| by_wrapper::$call($($argument),*),
         )
     };
 }
 
-impl Loans {
-    /// A volume and staging of these bytes; the other buffers have the right lengths and any bytes.
-    pub fn new(random: &mut Random, volume: &[u8], staging: &[u8]) -> Loans {
-        Loans {
-            state: Lent::new(random, STATE_LENGTH),
-            volume: Lent::of(random, volume),
-            staging: Lent::of(random, staging),
-            bytes: Lent::new(random, SECTOR_LENGTH),
-            layout: Lent::new(random, LAYOUT_LENGTH),
-            answer: Lent::new(random, ANSWER_LENGTH),
-        }
-    }
-
-    /// Has the state's buffer hold a state.
-    pub fn put_state(&mut self, state: &State) {
-        put_state(self.state.buffer(), state);
-    }
-
+impl Buffers {
     /// The numbers in the answer's buffer.
     pub fn answer(&self) -> Vec<u64> {
         numbers_in(self.answer.bytes())
     }
 
-    pub fn format(&mut self, layout: &Layout) -> u32 {
-        let reserved = layout.reserved as usize;
-        let shift = layout.log2_run as usize;
-        let width = layout.tag_size as usize;
-        let sections = layout.sections as usize;
-        let provided = layout.provided as usize;
-        let loans = self;
-        same!(
-            loans,
-            volume_format(
-                loans.volume.buffer(),
-                reserved,
-                shift,
-                width,
-                sections,
-                provided,
-                loans.answer.buffer()
-            )
-        )
-    }
-
-    pub fn query(&mut self, reserved: u64) -> u32 {
-        let loans = self;
-        same!(
-            loans,
-            volume_query(
-                loans.volume.bytes(),
-                reserved as usize,
-                loans.layout.buffer(),
-                loans.answer.buffer()
-            )
-        )
-    }
-
-    pub fn open(&mut self, reserved: u64) -> u32 {
-        let loans = self;
-        same!(
-            loans,
-            volume_open(
-                loans.volume.bytes(),
-                loans.staging.buffer(),
-                reserved as usize,
-                loans.state.buffer(),
-                loans.answer.buffer()
-            )
-        )
-    }
-
-    pub fn write(&mut self, sector: u64) -> u32 {
-        let loans = self;
-        same!(
-            loans,
-            volume_write(
-                loans.state.buffer(),
-                loans.staging.buffer(),
-                sector as usize,
-                loans.bytes.bytes(),
-                loans.answer.buffer()
-            )
-        )
-    }
-
-    pub fn flush(&mut self) -> u32 {
-        let loans = self;
-        same!(
-            loans,
-            volume_flush(loans.state.buffer(), loans.answer.buffer())
-        )
-    }
-
-    pub fn step(&mut self) -> u32 {
-        let loans = self;
-        same!(
-            loans,
-            volume_step(
-                loans.state.buffer(),
-                loans.volume.buffer(),
-                loans.staging.buffer(),
-                loans.answer.buffer()
-            )
-        )
-    }
-
-    pub fn advance(&mut self, steps: u64) -> u32 {
-        let loans = self;
-        same!(
-            loans,
-            volume_advance(
-                loans.state.buffer(),
-                loans.volume.buffer(),
-                loans.staging.buffer(),
-                steps as usize,
-                loans.answer.buffer()
-            )
-        )
-    }
-
-    pub fn read(&mut self, sector: u64) -> u32 {
-        let loans = self;
-        same!(
-            loans,
-            volume_read(
-                loans.state.bytes(),
-                loans.volume.bytes(),
-                loans.staging.bytes(),
-                sector as usize,
-                loans.bytes.buffer(),
-                loans.answer.buffer()
-            )
-        )
-    }
-
-    fn same(
-        &mut self,
-        call: &str,
-        proved: impl FnOnce(&mut Loans) -> u32,
-        reference: impl FnOnce(&mut Loans) -> u32,
-        wrapper: impl FnOnce(&mut Loans) -> Option<u32>,
-    ) -> u32 {
-        let mut expected = self.clone();
-        let mut wrapped = self.clone();
-        let expected_number = reference(&mut expected);
-        let number = proved(self);
-        assert_eq!(number, expected_number, "{call}");
-        self.assert_same(&expected, call);
-        if let Some(number) = wrapper(&mut wrapped) {
-            assert_eq!(number, expected_number, "the wrapper's {call}");
-            wrapped.assert_same(&expected, &format!("the wrapper's {call}"));
-        }
-        number
-    }
-
     /// All bytes of all buffers are the expected ones, the bytes around them included.
-    pub fn assert_same(&self, expected: &Loans, call: &str) {
-        let numbers = |loans: &Loans| [&loans.answer, &loans.state].map(|b| numbers_in(b.bytes()));
+    pub fn assert_same(&self, expected: &Buffers, maker: &str, call: &str) {
+        let numbers = |lent: &Buffers| [&lent.answer, &lent.state].map(|b| numbers_in(b.bytes()));
         for (name, buffer, expected_buffer) in [
             ("answer", &self.answer, &expected.answer),
             ("state", &self.state, &expected.state),
@@ -203,10 +63,211 @@ impl Loans {
             // A buffer that differs may be too long to print.
             assert!(
                 buffer == expected_buffer,
-                "{call}: the {name}'s buffer differs; answer and state are {:?}, not {:?}",
+                "{maker} {call}: the {name}'s buffer differs; answer and state are {:?}, not {:?}",
                 numbers(self),
                 numbers(expected)
             );
         }
+    }
+}
+
+impl Loans {
+    /// A volume and staging of these bytes; the other buffers have the right lengths and any bytes.
+    pub fn new(random: &mut Random, volume: &[u8], staging: &[u8]) -> Loans {
+        let lent = Buffers {
+            state: Lent::new(random, STATE_LENGTH),
+            volume: Lent::of(random, volume),
+            staging: Lent::of(random, staging),
+            bytes: Lent::new(random, SECTOR_LENGTH),
+            layout: Lent::new(random, LAYOUT_LENGTH),
+            answer: Lent::new(random, ANSWER_LENGTH),
+        };
+        Loans {
+            proved: lent.clone(),
+            wrapped: lent.clone(),
+            expected: lent,
+        }
+    }
+
+    /// The buffers, which are the same for the three.
+    pub fn lent(&self) -> &Buffers {
+        &self.proved
+    }
+
+    /// Lends another buffer in the place of one.
+    pub fn lend(&mut self, which: impl Fn(&mut Buffers) -> &mut Lent, lent: &Lent) {
+        for buffers in self.each() {
+            which(buffers).clone_from(lent);
+        }
+    }
+
+    /// Replaces the bytes of a buffer from a place on.
+    pub fn put(&mut self, which: impl Fn(&mut Buffers) -> &mut Lent, place: usize, bytes: &[u8]) {
+        for buffers in self.each() {
+            which(buffers).buffer()[place..][..bytes.len()].copy_from_slice(bytes);
+        }
+    }
+
+    /// Has a buffer hold any bytes.
+    pub fn fill(&mut self, random: &mut Random, which: impl Fn(&mut Buffers) -> &mut Lent) {
+        let length = which(&mut self.proved).bytes().len();
+        self.put(which, 0, &random.bytes(length));
+    }
+
+    /// Has the state's buffer hold a state.
+    pub fn put_state(&mut self, state: &State) {
+        for buffers in self.each() {
+            put_state(buffers.state.buffer(), state);
+        }
+    }
+
+    /// Power is lost: state and staging hold any bytes.
+    pub fn cut(&mut self, random: &mut Random) {
+        self.fill(random, |lent| &mut lent.state);
+        self.fill(random, |lent| &mut lent.staging);
+    }
+
+    fn each(&mut self) -> [&mut Buffers; 3] {
+        [&mut self.proved, &mut self.wrapped, &mut self.expected]
+    }
+
+    /// The numbers in the answer's buffer.
+    pub fn answer(&self) -> Vec<u64> {
+        self.proved.answer()
+    }
+
+    pub fn format(&mut self, layout: &Layout) -> u32 {
+        let reserved = layout.reserved as usize;
+        let shift = layout.log2_run as usize;
+        let width = layout.tag_size as usize;
+        let sections = layout.sections as usize;
+        let provided = layout.provided as usize;
+        same!(
+            self,
+            lent,
+            volume_format(
+                lent.volume.buffer(),
+                reserved,
+                shift,
+                width,
+                sections,
+                provided,
+                lent.answer.buffer()
+            )
+        )
+    }
+
+    pub fn query(&mut self, reserved: u64) -> u32 {
+        same!(
+            self,
+            lent,
+            volume_query(
+                lent.volume.bytes(),
+                reserved as usize,
+                lent.layout.buffer(),
+                lent.answer.buffer()
+            )
+        )
+    }
+
+    pub fn open(&mut self, reserved: u64) -> u32 {
+        same!(
+            self,
+            lent,
+            volume_open(
+                lent.volume.bytes(),
+                lent.staging.buffer(),
+                reserved as usize,
+                lent.state.buffer(),
+                lent.answer.buffer()
+            )
+        )
+    }
+
+    pub fn write(&mut self, sector: u64) -> u32 {
+        same!(
+            self,
+            lent,
+            volume_write(
+                lent.state.buffer(),
+                lent.staging.buffer(),
+                sector as usize,
+                lent.bytes.bytes(),
+                lent.answer.buffer()
+            )
+        )
+    }
+
+    pub fn flush(&mut self) -> u32 {
+        same!(
+            self,
+            lent,
+            volume_flush(lent.state.buffer(), lent.answer.buffer())
+        )
+    }
+
+    pub fn step(&mut self) -> u32 {
+        same!(
+            self,
+            lent,
+            volume_step(
+                lent.state.buffer(),
+                lent.volume.buffer(),
+                lent.staging.buffer(),
+                lent.answer.buffer()
+            )
+        )
+    }
+
+    pub fn advance(&mut self, steps: u64) -> u32 {
+        same!(
+            self,
+            lent,
+            volume_advance(
+                lent.state.buffer(),
+                lent.volume.buffer(),
+                lent.staging.buffer(),
+                steps as usize,
+                lent.answer.buffer()
+            )
+        )
+    }
+
+    pub fn read(&mut self, sector: u64) -> u32 {
+        same!(
+            self,
+            lent,
+            volume_read(
+                lent.state.bytes(),
+                lent.volume.bytes(),
+                lent.staging.bytes(),
+                sector as usize,
+                lent.bytes.buffer(),
+                lent.answer.buffer()
+            )
+        )
+    }
+
+    fn same(
+        &mut self,
+        call: &str,
+        proved: impl FnOnce(&mut Buffers) -> u32,
+        reference: impl FnOnce(&mut Buffers) -> u32,
+        wrapper: impl FnOnce(&mut Buffers) -> Option<u32>,
+    ) -> u32 {
+        let expected_number = reference(&mut self.expected);
+        let number = proved(&mut self.proved);
+        assert_eq!(number, expected_number, "{call}");
+        self.proved
+            .assert_same(&self.expected, "the C interface's", call);
+        match wrapper(&mut self.wrapped) {
+            Some(number) => assert_eq!(number, expected_number, "the wrapper's {call}"),
+            // It cannot be given such buffers. The call changed nothing but the answer.
+            None => self.wrapped.answer.clone_from(&self.expected.answer),
+        }
+        self.wrapped
+            .assert_same(&self.expected, "the wrapper's", call);
+        count_compared();
+        number
     }
 }

@@ -1,4 +1,21 @@
 //! The proved volume against the reference: answers, states and every byte of every buffer, after each call.
+//!
+//! What is covered where:
+//! - `histories`: calls in a row, the state kept between them; cuts, damaged bytes, ids up to the last, full batches.
+//! - `cuts`: a cut at every store of short histories and of their recoveries, with one, two and three sections.
+//! - `states`: single calls on states that are sound, and that break each clause of soundness.
+//! - `journals`: sections that are torn, misplaced, of equal ids, of ids up to 2^64 - 1, with entries not below the number
+//!   provided or tags that do not fit; recoveries, commits and write-backs from any place on.
+//! - `superblocks`: each byte and each number of a superblock wrong.
+//! - `orders`: each refusal of each call, alone and before each later one.
+//! - `refusals`: each refusal by the safe wrapper: its values and what it says.
+//! - `buffers`: buffers of wrong lengths, state buffers of any bytes, volumes around the greatest length.
+//! - `formats`: formatted volumes, the greatest too, and formats that are refused.
+//! - `advances`: so many steps at once against as many single ones.
+//! - `any_input`: volumes, staging, states and arguments of any kind.
+//! - `examples`: document 01's examples.
+//!
+//! `histories`, `states`, `journals` and `cuts` count the kinds of cases that they reach, and fail if one is too seldom.
 
 mod advances;
 mod any_input;
@@ -8,6 +25,10 @@ mod by_wrapper;
 mod cuts;
 mod examples;
 mod formats;
+mod histories;
 mod journals;
 mod loans;
+mod orders;
 mod refusals;
+mod states;
+mod superblocks;

@@ -1,7 +1,7 @@
 //! Each refusal of each call, by the safe wrapper: its number, its values and what it says.
 
 use gaffreel::volume::{advance, flush, format, open, query, read, step, write};
-use gaffreel::volume::{Layout, Phase, State};
+use gaffreel::volume::{Layout, Phase, State, Stopped};
 use gaffreel::Refusal;
 use volumes::{put_id, put_section, section, Entry};
 
@@ -161,29 +161,58 @@ fn of_step_and_advance() {
     let staging = section(&geometry(), 0, &entries);
     let staged = |entry| in_phase(Phase::WritingBack { entry, store: 0 }, 2);
     let replayed = |store| in_phase(Phase::Recovering { store }, 0);
+    let committing = in_phase(Phase::Committing { sector: 0 }, 2);
     let (section, entry) = (1, 1);
-    for (first, at_hand, refusal) in [
-        (staged(0), staged(1), Refusal::StagedSector { entry }),
-        (
-            replayed(0),
-            replayed(2),
-            Refusal::JournalSector { section, entry },
-        ),
+    let in_staging = Refusal::StagedSector { entry };
+    let in_journal = Refusal::JournalSector { section, entry };
+    for (first, at_hand, refusal, stores, acknowledged) in [
+        (staged(0), staged(1), in_staging, 2, false),
+        (replayed(0), replayed(2), in_journal, 2, false),
+        (committing, staged(1), in_staging, 90, true),
     ] {
         let mut loans = (at_hand, volume.clone(), staging.clone());
         let answer = step(&mut loans.0, &mut loans.1, &mut loans.2);
         assert_eq!(answer, Err(refusal));
         assert!(loans == (at_hand, volume.clone(), staging.clone()));
-        // The steps before the refused one stay.
+        // The steps before the refused one stay, and are counted.
         let mut loans = (first, volume.clone(), staging.clone());
-        let answer = advance(&mut loans.0, &mut loans.1, &mut loans.2, 9);
-        assert_eq!(answer, Err(refusal));
-        assert_eq!(loans.0, at_hand);
+        let answer = advance(&mut loans.0, &mut loans.1, &mut loans.2, 99);
+        let stopped = Stopped {
+            refusal,
+            stores,
+            acknowledged,
+        };
+        assert_eq!(answer, Err(stopped));
+        let id = first.id + u64::from(acknowledged);
+        assert_eq!(loans.0, State { id, ..at_hand });
         let home = geometry().home(3).unwrap();
         assert_eq!(loans.1[home.data * 512..][..512], [1; 512]);
     }
     let answer = step(&mut replayed(4), &mut volume.clone(), &mut staging.clone());
     assert_eq!(answer, Err(Refusal::LengthOrState));
+}
+
+/// An advance that stopped says what it counted, and what the refusal says.
+#[test]
+fn messages_of_advance() {
+    let refusal = Refusal::StagedSector { entry: 1 };
+    for (stores, acknowledged, counted) in [
+        (0, false, "stopped after 0 stores: "),
+        (1, false, "stopped after 1 store: "),
+        (
+            90,
+            true,
+            "stopped after 90 stores, the batch acknowledged: ",
+        ),
+    ] {
+        let stopped = Stopped {
+            refusal,
+            stores,
+            acknowledged,
+        };
+        assert_eq!(stopped.to_string(), format!("{counted}{refusal}"));
+        assert_eq!(Refusal::from(stopped), refusal);
+    }
 }
 
 #[test]

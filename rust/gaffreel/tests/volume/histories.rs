@@ -1,0 +1,260 @@
+//! Long histories: calls in a row on one small volume, its state kept from call to call, with cuts, damaged bytes and ids
+//! near the last. Asked of them: that each call answers each number that it can in a history.
+
+use crate::loans::{Loans, DONE};
+use random::{cases, Lent, Random, Reached};
+use reference::volume::{Geometry, Layout};
+use volumes::any::any_number;
+use volumes::{formatted, geometry, put_id, put_ids};
+
+/// What was called, and the number that it answered.
+type Answered = (&'static str, u32);
+
+/// What histories answer in plenty.
+const OFTEN: [Answered; 12] = [
+    ("query", DONE),
+    ("open", DONE),
+    ("write", DONE),
+    ("write", 6),
+    ("write", 9),
+    ("flush", DONE),
+    ("flush", 9),
+    ("step", DONE),
+    ("advance", DONE),
+    ("read", DONE),
+    ("read", 6),
+    ("read", 9),
+];
+
+/// What they answer where bytes are damaged, ids used up or batches full.
+const SELDOM: [Answered; 13] = [
+    ("query", 4),
+    ("open", 4),
+    ("open", 6),
+    ("open", 7),
+    ("open", 10),
+    ("write", 1),
+    ("write", 8),
+    ("flush", 1),
+    ("flush", 10),
+    ("step", 1),
+    ("step", 6),
+    ("advance", 6),
+    ("read", 7),
+];
+
+/// Small volumes, so that all their bytes are soon compared.
+fn layout(random: &mut Random, sections: &[u64]) -> Layout {
+    Layout {
+        reserved: random.pick(&[0, 0, 1]),
+        log2_run: random.pick(&[3, 3, 4]),
+        tag_size: random.pick(&[32, 32, 32, 16, 8]),
+        sections: random.pick(sections),
+        provided: random.length(1..=12) as u64,
+    }
+}
+
+/// A formatted volume; in some cases an id near the last stands on a sector of its journal.
+fn volume(random: &mut Random, layout: &Layout, geometry: &Geometry) -> Vec<u8> {
+    let mut volume = formatted(layout, random.length(0..=1));
+    if random.number().is_multiple_of(3) {
+        let section = random.length(0..=geometry.sections - 1);
+        let sector = random.length(0..=geometry.section_sectors - 1);
+        let id = u64::MAX - random.pick(&[1, 2, 3, 4, 5, 8]);
+        put_id(&mut volume, geometry, section, sector, id);
+    }
+    volume
+}
+
+struct History<'a> {
+    random: &'a mut Random,
+    reached: &'a mut Reached<Answered>,
+    layout: Layout,
+    geometry: Geometry,
+    loans: Loans,
+    calls: usize,
+}
+
+impl History<'_> {
+    fn answered(&mut self, call: &'static str, number: u32) -> u32 {
+        self.calls += 1;
+        self.reached.add((call, number));
+        number
+    }
+
+    /// Often one of a few sectors, so that the same one is written again.
+    fn sector(&mut self) -> u64 {
+        match self.random.number() % 12 {
+            0 => self.layout.provided,
+            1 => any_number(self.random),
+            2..=5 => self.random.number() % self.layout.provided,
+            _ => self.random.number() % self.layout.provided.min(3),
+        }
+    }
+
+    fn write(&mut self) {
+        self.loans.fill(self.random, |lent| &mut lent.bytes);
+        let sector = self.sector();
+        let number = self.loans.write(sector);
+        self.answered("write", number);
+    }
+
+    /// A few writes; seldom as many as make the batch full.
+    fn writes(&mut self) {
+        let count = match self.random.number() % 32 {
+            0 => self.geometry.entries + self.geometry.entries / 2,
+            _ => self.random.length(1..=4),
+        };
+        for _ in 0..count {
+            self.write();
+        }
+    }
+
+    fn flush(&mut self) {
+        let number = self.loans.flush();
+        self.answered("flush", number);
+    }
+
+    fn steps(&mut self) {
+        let count = match self.random.number() % 3 {
+            0 => self.random.length(1..=4),
+            1 => self.random.length(1..=self.geometry.section_sectors),
+            _ => self.geometry.section_sectors + self.random.length(0..=8),
+        };
+        for _ in 0..count {
+            let number = self.loans.step();
+            self.answered("step", number);
+            // Further steps would be all the same.
+            if number != DONE || self.loans.answer()[0] == 0 {
+                return;
+            }
+        }
+    }
+
+    fn advance(&mut self) {
+        let steps = match self.random.number() % 3 {
+            0 => self.random.number() % 4,
+            1 => self.random.number() % (self.geometry.section_sectors as u64 + 8),
+            _ => any_number(self.random),
+        };
+        let number = self.loans.advance(steps);
+        self.answered("advance", number);
+    }
+
+    fn reads(&mut self) {
+        for _ in 0..4 {
+            let sector = self.sector();
+            let number = self.loans.read(sector);
+            self.answered("read", number);
+        }
+    }
+
+    /// Power is lost, a few calls find no state, and the volume is opened, or else another is.
+    fn cut(&mut self) {
+        self.loans.cut(self.random);
+        if self.random.number().is_multiple_of(4) {
+            self.write();
+            self.flush();
+            self.steps();
+        }
+        let number = self.loans.query(self.layout.reserved);
+        self.answered("query", number);
+        let number = self.loans.open(self.layout.reserved);
+        if self.answered("open", number) != DONE {
+            let volume = volume(self.random, &self.layout, &self.geometry);
+            let volume = Lent::of(self.random, &volume);
+            self.loans.lend(|lent| &mut lent.volume, &volume);
+            let number = self.loans.open(self.layout.reserved);
+            assert_eq!(self.answered("open", number), DONE);
+        }
+    }
+
+    /// A byte of the volume or of staging is another: often one of the runs.
+    fn damage(&mut self) {
+        let (journal, base) = (self.geometry.journal() * 512, self.geometry.base * 512);
+        let section = self.geometry.section_sectors * 512;
+        let volume = self.geometry.sectors * 512;
+        // The 8 metadata sectors of a section have its entries.
+        let entries = self.random.length(0..=self.geometry.sections - 1) * section + journal;
+        let (first, end) = match self.random.number() % 16 {
+            0 => (0, volume),
+            1 => (journal, base),
+            2 | 3 => (entries, entries + 64),
+            4 => (journal - 8 * 512, journal - 8 * 512 + 24),
+            5 => return self.damage_staging(),
+            _ => (base, volume),
+        };
+        let place = self.random.length(first..=end - 1);
+        let byte = self.loans.lent().volume.bytes()[place] ^ 1 << self.random.length(0..=7);
+        self.loans.put(|lent| &mut lent.volume, place, &[byte]);
+    }
+
+    /// The first entry's sector is another.
+    fn damage_staging(&mut self) {
+        let sector = self.sector().to_le_bytes();
+        self.loans.put(|lent| &mut lent.staging, 0, &sector);
+    }
+
+    /// All sectors of a section get an id.
+    fn replace_id(&mut self) {
+        let section = self.random.length(0..=self.geometry.sections - 1);
+        let any = any_number(self.random);
+        let id = self.random.pick(&[any, any, u64::MAX]);
+        let mut volume = self.loans.lent().volume.bytes().to_vec();
+        put_ids(&mut volume, &self.geometry, section, id);
+        self.loans.put(|lent| &mut lent.volume, 0, &volume);
+    }
+
+    /// Calls of one kind.
+    fn go_on(&mut self) {
+        match self.random.number() % 64 {
+            0..=15 => self.writes(),
+            16..=27 => self.flush(),
+            28..=43 => self.steps(),
+            44..=49 => self.advance(),
+            50..=57 => self.reads(),
+            58..=61 => self.cut(),
+            62 => self.damage(),
+            _ if self.random.number().is_multiple_of(4) => self.replace_id(),
+            _ => self.damage(),
+        }
+    }
+}
+
+/// Histories of so many calls each, on journals of so many sections.
+fn histories(count: u64, sections: &[u64]) -> Reached<Answered> {
+    let mut reached = Reached::new();
+    cases(count, |random| {
+        let layout = layout(random, sections);
+        let geometry = geometry(&layout);
+        let volume = volume(random, &layout, &geometry);
+        let staging = random.bytes(geometry.staging_length());
+        let mut history = History {
+            loans: Loans::new(random, &volume, &staging),
+            random,
+            reached: &mut reached,
+            layout,
+            geometry,
+            calls: 0,
+        };
+        history.cut();
+        while history.calls < 1_500 {
+            history.go_on();
+        }
+    });
+    reached.assert_each(1_000, OFTEN);
+    reached.assert_each(20, SELDOM);
+    reached
+}
+
+#[test]
+fn with_one_section() {
+    histories(800, &[1]);
+}
+
+#[test]
+fn with_two_or_three_sections() {
+    let reached = histories(600, &[2, 3]);
+    // A section's wrong place: with one section there is none.
+    reached.assert_each(20, [("open", 11)]);
+}

@@ -1,0 +1,438 @@
+//! The order of refusals. Each call has its faults in the header's order, each with its number. Every two of them at once,
+//! with any of the later ones: the first answers. So each fault answers alone, and before each later one.
+
+use crate::buffers::wrong_length;
+use crate::by_reference::{layout_numbers, put_numbers, StateNumbers};
+use crate::by_reference::{COMMITTING, FILLING, RECOVERING, WRITING_BACK};
+use crate::by_reference::{COUNT, FIRST, ID, PHASE, SECOND};
+use crate::loans::{Loans, DONE};
+use gaffreel::volume::{ANSWER_LENGTH, LAYOUT_LENGTH, SECTOR_LENGTH, STATE_LENGTH};
+use random::{cases, Lent, Random};
+use reference::volume::{Geometry, Layout};
+use volumes::{empty_staging, formatted, geometry};
+use volumes::{put_id, put_ids, put_section, section, Entry};
+
+/// What a call is given.
+#[derive(Clone)]
+struct Input {
+    geometry: Geometry,
+    volume: Vec<u8>,
+    staging: Vec<u8>,
+    state: StateNumbers,
+    /// The lengths of the other buffers.
+    state_length: usize,
+    bytes_length: usize,
+    layout_length: usize,
+    answer_length: usize,
+    /// The arguments.
+    layout: Layout,
+    reserved: u64,
+    sector: u64,
+    steps: u64,
+}
+
+/// A fault and the number that it is refused with.
+type Fault = (u32, fn(&mut Random, &mut Input));
+
+/// The entry that has the faults of entries.
+const ENTRY: usize = 1;
+
+/// An open volume of two sections, each whole and in its place, with a batch of three in staging.
+fn good(random: &mut Random) -> Input {
+    let layout = Layout {
+        reserved: random.pick(&[0, 1, 64]),
+        log2_run: random.pick(&[3, 4]),
+        tag_size: random.pick(&[8, 16, 32]),
+        sections: 2,
+        provided: random.length(4..=12) as u64,
+    };
+    let geometry = geometry(&layout);
+    let entries = [0, 2, 1].map(|sector| Entry::new(sector, random.number() as u8));
+    let mut volume = formatted(&layout, 0);
+    for number in 0..2 {
+        let bytes = section(&geometry, number as u64 + 1, &entries);
+        put_section(&mut volume, &geometry, number, &bytes);
+    }
+    let mut state = [0; 10];
+    state[..PHASE].copy_from_slice(&layout_numbers(&layout));
+    state[PHASE..].copy_from_slice(&[FILLING, 0, 0, 0, 3]);
+    Input {
+        geometry,
+        volume,
+        staging: section(&geometry, 0, &entries),
+        state,
+        state_length: STATE_LENGTH,
+        bytes_length: SECTOR_LENGTH,
+        layout_length: LAYOUT_LENGTH,
+        answer_length: ANSWER_LENGTH,
+        layout,
+        reserved: layout.reserved,
+        sector: layout.provided - 1,
+        steps: random.pick(&[2, 3, u64::MAX]),
+    }
+}
+
+fn lent(random: &mut Random, input: &Input) -> Loans {
+    let mut loans = Loans::new(random, &input.volume, &input.staging);
+    let mut state = random.bytes(input.state_length.max(STATE_LENGTH));
+    put_numbers(&mut state, &input.state);
+    state.truncate(input.state_length);
+    loans.lend(|lent| &mut lent.state, &Lent::of(random, &state));
+    let bytes = Lent::new(random, input.bytes_length);
+    loans.lend(|lent| &mut lent.bytes, &bytes);
+    let layout = Lent::new(random, input.layout_length);
+    loans.lend(|lent| &mut lent.layout, &layout);
+    let answer = Lent::new(random, input.answer_length);
+    loans.lend(|lent| &mut lent.answer, &answer);
+    loans
+}
+
+const ANSWER: Fault = (1, |random, input| {
+    input.answer_length = wrong_length(random, ANSWER_LENGTH);
+});
+
+const STATE: Fault = (1, |random, input| {
+    input.state_length = wrong_length(random, STATE_LENGTH);
+});
+
+const LAYOUT: Fault = (1, |random, input| {
+    input.layout_length = wrong_length(random, LAYOUT_LENGTH);
+});
+
+const BYTES: Fault = (1, |random, input| {
+    input.bytes_length = wrong_length(random, SECTOR_LENGTH);
+});
+
+const STAGING: Fault = (1, |random, input| {
+    let length = wrong_length(random, input.geometry.staging_length());
+    input.staging.resize(length, 7);
+});
+
+/// The volume is not whole sectors.
+const PART_OF_A_SECTOR: Fault = (1, |random, input| {
+    let length = input.volume.len() + random.length(1..=511);
+    input.volume.resize(length, 7);
+});
+
+const UNSOUND: Fault = (1, |random, input| {
+    let (place, number) = random.pick(&[
+        (0, 65),
+        (1, 2),
+        (2, 9),
+        (3, 0),
+        (4, 65_537),
+        (PHASE, 4),
+        (SECOND, 2),
+        (COUNT, 1 << 32),
+        (ID, 0),
+    ]);
+    input.state[place] = number;
+});
+
+/// The state's layout is longer than the volume.
+const SHORT_FOR_STATE: Fault = (1, |random, input| shorten(random, input));
+
+/// In a recovery only: beyond its last store.
+const STORE: Fault = (1, |random, input| {
+    input.state[PHASE..=COUNT].copy_from_slice(&[RECOVERING, 12, 0, 0]);
+    input.state[FIRST] += random.pick(&[0, 1, 1 << 32]);
+});
+
+/// Shorter than the layout, with room for the superblock.
+fn shorten(random: &mut Random, input: &mut Input) {
+    let least = input.geometry.reserved + 8;
+    let any = random.length(least..=input.geometry.sectors - 1);
+    let sectors = random.pick(&[least, any, input.geometry.sectors - 1]);
+    input.volume.truncate(sectors * 512);
+}
+
+const SHORT: Fault = (5, |random, input| shorten(random, input));
+
+const NO_ROOM_FOR_SUPERBLOCK: Fault = (5, |random, input| {
+    let sectors = random.length(0..=input.geometry.reserved + 7);
+    input.volume.truncate(sectors * 512);
+});
+
+const RESERVED: Fault = (2, |random, input| {
+    input.reserved = random.pick(&[65, 1 << 32, u64::MAX]);
+});
+
+const PARAMETER: Fault = (2, |random, input| {
+    let layout = &mut input.layout;
+    match random.number() % 5 {
+        0 => layout.reserved = random.pick(&[65, 1 << 32, u64::MAX]),
+        1 => layout.log2_run = random.pick(&[0, 2, 16, 64, 259]),
+        2 => layout.tag_size = random.pick(&[0, 7, 24, 33, 64]),
+        3 => layout.sections = random.pick(&[0, 65, (1 << 32) + 1]),
+        _ => layout.provided = random.pick(&[0, 65_537, (1 << 32) + 1]),
+    }
+});
+
+fn superblock(input: &mut Input) -> &mut [u8] {
+    let start = input.geometry.reserved * 512;
+    let end = input.volume.len().min(start + 8 * 512);
+    &mut input.volume[start.min(end)..end]
+}
+
+const SUPERBLOCK_NOT_ZERO: Fault = (3, |random, input| {
+    let place = random.length(0..=8 * 512 - 1);
+    superblock(input)[place] = 1;
+});
+
+const SUPERBLOCK_ZERO: Fault = (3, |_, input| superblock(input).fill(0));
+
+const SUPERBLOCK_NOT_VALID: Fault = (4, |random, input| {
+    let behind = random.length(24..=8 * 512 - 1);
+    let place = random.pick(&[0, 7, 8, 9, 10, 11, 15, 23, behind]);
+    superblock(input)[place] ^= 0x80;
+});
+
+/// An odd id goes to the first section.
+const MISPLACED: Fault = (11, |random, input| {
+    let id = random.pick(&[1, 3, 5, u64::MAX - 2]);
+    put_ids(&mut input.volume, &input.geometry, 1, id);
+});
+
+/// One sector has the last id, or, where a section is misplaced, all of that section: it is so with this id too.
+const LAST_ID: Fault = (10, |random, input| {
+    let place = input.geometry.journal() + input.geometry.section_sectors;
+    let misplaced = input.volume[place * 512 + 504] % 2 == 1;
+    match misplaced {
+        true => put_ids(&mut input.volume, &input.geometry, 1, u64::MAX),
+        false => {
+            let sector = random.length(0..=input.geometry.section_sectors - 1);
+            put_id(&mut input.volume, &input.geometry, 1, sector, u64::MAX);
+        }
+    }
+});
+
+/// A number above those of the sectors provided; none that marks an unused entry.
+fn not_provided(random: &mut Random, input: &Input) -> u64 {
+    let provided = input.geometry.provided as u64;
+    random.pick(&[provided, provided + 1, 1 << 32, u64::MAX - 1])
+}
+
+/// The entry's head in a section.
+fn entry(geometry: &Geometry, section: &mut [u8]) -> std::ops::Range<usize> {
+    assert_eq!(section.len(), geometry.staging_length());
+    ENTRY * geometry.entry_size..(ENTRY + 1) * geometry.entry_size
+}
+
+/// The first section of the journal, which is replayed first.
+fn first_section(input: &mut Input) -> &mut [u8] {
+    let length = input.geometry.staging_length();
+    &mut input.volume[input.geometry.journal() * 512..][..length]
+}
+
+const JOURNAL_TAG: Fault = (7, |random, input| {
+    let geometry = input.geometry;
+    let section = first_section(input);
+    let head = entry(&geometry, section);
+    section[head][16..][random.length(0..=7)] ^= 1;
+});
+
+const JOURNAL_SECTOR: Fault = (6, |random, input| {
+    let sector = not_provided(random, input);
+    let geometry = input.geometry;
+    let section = first_section(input);
+    let head = entry(&geometry, section);
+    put_numbers(&mut section[head], &[sector]);
+});
+
+/// The entry at hand names a sector that is not provided: in staging, or in the journal where the phase is recovering.
+const ENTRY_AT_HAND: Fault = (6, |random, input| {
+    if input.state[PHASE] == RECOVERING {
+        return JOURNAL_SECTOR.1(random, input);
+    }
+    let sector = not_provided(random, input);
+    let head = entry(&input.geometry, &mut input.staging);
+    put_numbers(&mut input.staging[head], &[sector]);
+});
+
+const SECTOR: Fault = (6, |random, input| {
+    let sector = not_provided(random, input);
+    input.sector = random.pick(&[sector, u64::MAX]);
+});
+
+const FULL: Fault = (8, |_, input| {
+    input.state[COUNT] = input.geometry.entries as u64
+});
+
+const LAST_ID_OF_STATE: Fault = (10, |_, input| {
+    input.state[COUNT] = 2;
+    input.state[ID] = u64::MAX;
+});
+
+/// A phase that is sound with the count and the id.
+const NOT_FILLING: Fault = (9, |random, input| {
+    let phase = match (input.state[COUNT], input.state[ID]) {
+        (0, _) => RECOVERING,
+        (_, u64::MAX) => WRITING_BACK,
+        _ => random.pick(&[COMMITTING, WRITING_BACK]),
+    };
+    input.state[PHASE] = phase;
+});
+
+const IN_RECOVERY: Fault = (9, |random, input| {
+    input.state[PHASE..=COUNT].copy_from_slice(&[RECOVERING, 0, 0, 0]);
+    input.state[FIRST] = random.number() % 12;
+});
+
+/// No tag fits: the runs have other bytes.
+const TAGS: Fault = (7, |_, input| {
+    let base = input.geometry.base * 512;
+    input.volume[base..].fill(0xee);
+});
+
+/// Makes a call with no fault, then with every two.
+fn every_two(
+    random: &mut Random,
+    good: &Input,
+    faults: &[Fault],
+    call: impl Fn(&mut Loans, &Input) -> u32,
+) {
+    assert_eq!(call(&mut lent(random, good), good), DONE);
+    for first in 0..faults.len() {
+        for second in first..faults.len() {
+            let any = random.number() & random.number();
+            let mut input = good.clone();
+            // The last comes first, so that no volume is cut before its bytes are changed.
+            for (place, (_, fault)) in faults.iter().enumerate().rev() {
+                let later = place > first && any >> place & 1 == 1;
+                if place == first || place == second || later {
+                    fault(random, &mut input);
+                }
+            }
+            let number = call(&mut lent(random, &input), &input);
+            assert_eq!(number, faults[first].0, "faults {first} and {second}");
+        }
+    }
+}
+
+#[test]
+fn of_format() {
+    cases(200, |random| {
+        let mut input = good(random);
+        superblock(&mut input).fill(0);
+        let faults = [
+            ANSWER,
+            PART_OF_A_SECTOR,
+            PARAMETER,
+            SHORT,
+            SUPERBLOCK_NOT_ZERO,
+        ];
+        every_two(random, &input, &faults, |loans, input| {
+            loans.format(&input.layout)
+        });
+    });
+}
+
+/// The faults of a volume and its superblock.
+const OF_SUPERBLOCK: [Fault; 6] = [
+    PART_OF_A_SECTOR,
+    RESERVED,
+    NO_ROOM_FOR_SUPERBLOCK,
+    SUPERBLOCK_ZERO,
+    SUPERBLOCK_NOT_VALID,
+    SHORT,
+];
+
+#[test]
+fn of_query() {
+    cases(150, |random| {
+        let faults = [&[ANSWER, LAYOUT][..], &OF_SUPERBLOCK].concat();
+        let input = good(random);
+        every_two(random, &input, &faults, |loans, input| {
+            loans.query(input.reserved)
+        });
+    });
+}
+
+#[test]
+fn of_open() {
+    cases(60, |random| {
+        let of_journal = [STAGING, LAST_ID, MISPLACED, JOURNAL_SECTOR, JOURNAL_TAG];
+        let faults = [&[ANSWER, STATE][..], &OF_SUPERBLOCK, &of_journal].concat();
+        let mut input = good(random);
+        input.staging = empty_staging(&input.geometry);
+        every_two(random, &input, &faults, |loans, input| {
+            loans.open(input.reserved)
+        });
+    });
+}
+
+#[test]
+fn of_write() {
+    cases(150, |random| {
+        let lengths = [ANSWER, STATE, UNSOUND, STAGING, BYTES];
+        let faults = [&lengths[..], &[NOT_FILLING, SECTOR, FULL]].concat();
+        let input = good(random);
+        every_two(random, &input, &faults, |loans, input| {
+            loans.write(input.sector)
+        });
+    });
+}
+
+#[test]
+fn of_flush() {
+    cases(200, |random| {
+        let faults = [ANSWER, STATE, UNSOUND, NOT_FILLING, LAST_ID_OF_STATE];
+        let input = good(random);
+        every_two(random, &input, &faults, |loans, _| loans.flush());
+    });
+}
+
+/// At the entry that has the faults, in staging or in the journal.
+fn at_the_entry(random: &mut Random) -> Input {
+    let mut input = good(random);
+    let half = random.number() % 2;
+    let place = match random.number() % 2 {
+        0 => [WRITING_BACK, ENTRY as u64, half, 3],
+        _ => [RECOVERING, 2 * ENTRY as u64 + half, 0, 0],
+    };
+    input.state[PHASE..=COUNT].copy_from_slice(&place);
+    input
+}
+
+const OF_STEP: [Fault; 8] = [
+    ANSWER,
+    STATE,
+    UNSOUND,
+    PART_OF_A_SECTOR,
+    SHORT_FOR_STATE,
+    STAGING,
+    STORE,
+    ENTRY_AT_HAND,
+];
+
+#[test]
+fn of_step() {
+    cases(150, |random| {
+        let input = at_the_entry(random);
+        every_two(random, &input, &OF_STEP, |loans, _| loans.step());
+    });
+}
+
+#[test]
+fn of_advance() {
+    cases(150, |random| {
+        let input = at_the_entry(random);
+        every_two(random, &input, &OF_STEP, |loans, input| {
+            loans.advance(input.steps)
+        });
+    });
+}
+
+#[test]
+fn of_read() {
+    cases(100, |random| {
+        let lengths = [ANSWER, STATE, UNSOUND, PART_OF_A_SECTOR, SHORT_FOR_STATE];
+        let others = [STAGING, BYTES, STORE, IN_RECOVERY, SECTOR, TAGS];
+        let faults = [&lengths[..], &others].concat();
+        let mut input = good(random);
+        input.state[COUNT] = random.number() % 4;
+        every_two(random, &input, &faults, |loans, input| {
+            loans.read(input.sector)
+        });
+    });
+}

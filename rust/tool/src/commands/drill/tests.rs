@@ -1,0 +1,90 @@
+//! That a drill tells of what is lost: the proved library loses nothing, so what must be there is told wrong.
+
+use super::cuts::{Cuts, Lost};
+use super::{report, Batch, Drill, Settings, Stop};
+use crate::volume::Volume;
+use gaffreel::volume::{self, Layout};
+
+const SETTINGS: Settings = Settings {
+    reserved: 0,
+    seed: 5,
+    batches: 2,
+    writes: 3,
+    recovery_cuts: None,
+};
+
+/// A volume just formatted, with a sector behind the last run that has these bytes.
+fn formatted(behind: u8) -> Volume {
+    let layout = Layout {
+        reserved: 0,
+        log2_run: 4,
+        tag_size: 32,
+        sections: 1,
+        provided: 16,
+    };
+    let mut bytes = vec![0; 120 * 512];
+    bytes.extend([behind; 512]);
+    volume::format(&mut bytes, &layout).unwrap();
+    Volume::recovered(bytes, 0).unwrap()
+}
+
+fn drill() -> (Drill, Vec<Batch>) {
+    let volume = formatted(0);
+    let history = SETTINGS.history(&volume);
+    (Drill::new(volume, &SETTINGS, &history).unwrap(), history)
+}
+
+fn told(drill: &mut Drill, history: &[Batch]) -> String {
+    let Err(Stop::Lost(lost)) = drill.play(history) else {
+        panic!("it is survived");
+    };
+    let mut out = Vec::new();
+    report(&mut out, &SETTINGS, drill.stores, &lost).unwrap();
+    String::from_utf8(out).unwrap()
+}
+
+#[test]
+fn of_a_sector_with_other_bytes() {
+    let (mut drill, history) = drill();
+    drill.contents.enter(&vec![(7, [1; 512])]);
+    assert_eq!(
+        told(&mut drill, &history),
+        "not survived: a cut after 0 stores: sector 7 has other bytes\n\
+         again, with the image as it is: --reserved 0 --seed 5 --batches 2 --writes 3\n"
+    );
+}
+
+#[test]
+fn of_a_batch_that_is_acknowledged_too_late() {
+    let (mut drill, history) = drill();
+    drill.section_sectors += 1;
+    let told = told(&mut drill, &history);
+    assert!(told.starts_with("not survived: a cut after 88 stores: store 88 of a batch says"));
+}
+
+#[test]
+fn of_bytes_outside_journal_and_runs() {
+    let (mut drill, history) = drill();
+    drill.cuts = Cuts::new(&formatted(1), u64::MAX);
+    let told = told(&mut drill, &history);
+    assert!(told.contains("bytes outside journal and runs were changed"));
+}
+
+#[test]
+fn of_a_recovery_that_was_cut() {
+    let lost = Lost {
+        recovery_stores: Some(1),
+        what: "sector 3 has other bytes".into(),
+    };
+    let settings = Settings {
+        recovery_cuts: Some(9),
+        ..SETTINGS
+    };
+    let mut out = Vec::new();
+    report(&mut out, &settings, 90, &lost).unwrap();
+    assert_eq!(
+        String::from_utf8(out).unwrap(),
+        "not survived: a cut after 90 stores, and one after 1 store of the recovery: sector 3 has other bytes\n\
+         again, with the image as it is: --reserved 0 --seed 5 --batches 2 --writes 3 --recovery-cuts 9\n"
+    );
+}

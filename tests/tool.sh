@@ -1,0 +1,37 @@
+#!/usr/bin/env bash
+# Builds the command-line tool, runs the example of docs/gaffreel.md again and compares what it prints with the page, and drills the
+# samples and a fresh volume. The tool's other tests are run with those of the other Rust crates.
+set -euo pipefail
+cd "$(dirname "$0")/.."
+
+. tests/common/archive.sh
+archive
+
+# Set, it would test another library.
+unset GAFFREEL_STATICLIB_DIR
+
+(cd rust && cargo build --quiet --release --offline -p gaffreel-tool)
+PATH=$PWD/target/rust/release:$PATH
+
+work=$(mktemp -d)
+trap 'rm -rf "$work"' EXIT
+
+bash docs/examples/cut_and_recovery.sh >"$work/printed"
+# The page's only console block.
+awk '/^```$/ { inside = 0 } inside { print } /^```console$/ { inside = 1 }' docs/gaffreel.md >"$work/page"
+if ! diff "$work/page" "$work/printed"; then
+    echo "docs/gaffreel.md differs from what docs/examples/cut_and_recovery.sh prints"
+    exit 1
+fi
+echo "docs/gaffreel.md: the example prints what the page says"
+
+for image in samples/*.img; do
+    gaffreel drill "$image" >"$work/drill" || {
+        cat "$work/drill"
+        exit 1
+    }
+    echo "$image: $(tail -n 1 "$work/drill")"
+done
+
+gaffreel format "$work/image" --tag-size 16 --run 8 --sections 3 --sectors 24 --reserved 1
+gaffreel drill "$work/image" --reserved 1 --batches 5 --writes 6
