@@ -1,20 +1,14 @@
 #!/usr/bin/env bash
 # Has veritysetup make each tree of the program tree_vectors again, and compares root digests and trees with the file that the
-# program is held to. veritysetup works on plain files here. Where it isn't there, Debian's package cryptsetup-bin is installed.
+# program is held to. veritysetup works on plain files here.
 set -euo pipefail
 cd "$(dirname "$0")/.."
+source tests/common/need.sh
 
 file=crates/tree_vectors/stdout
 
-if ! command -v veritysetup >/dev/null; then
-    echo "installing cryptsetup-bin, for veritysetup"
-    {
-        apt-get install -y -q cryptsetup-bin || { apt-get update -q && apt-get install -y -q cryptsetup-bin; }
-    } >/dev/null 2>&1 || {
-        echo "cryptsetup-bin can't be installed"
-        exit 1
-    }
-fi
+need veritysetup cryptsetup-bin
+need python3 python3
 
 work=$(mktemp -d)
 trap 'rm -rf "$work"' EXIT
