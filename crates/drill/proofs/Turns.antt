@@ -20,8 +20,8 @@ use Rattle.model.specs.declared.OpenAnswer.the-variants.{Opened, Refused}
 use Rattle.model.specs.declared.State.{State}
 use Rattle.model.specs.declared.Stepped.{Stepped}
 use Rattle.model.specs.declared.Written.{Written}
-use Rattle.batch.specs.Results.{written}
-use Rattle.volume.specs.Results.{Leaves}
+use Rattle.volume_batch.specs.Results.{written}
+use Rattle.volume_step.specs.Results.{Leaves}
 use Rattle.drill.specs.declared.Live.{Live}
 use Rattle.drill.specs.declared.Live.the-variants.{Off, On}
 use Rattle.drill.specs.declared.Moment.{Moment}

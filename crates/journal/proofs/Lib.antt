@@ -1,9 +1,3 @@
-pub mod Sizes
-pub mod Slices
-pub mod Fields
-pub mod Entries
-pub mod Clearing
-pub mod Counts
 pub mod Scans
 pub mod Tables
 pub mod Ordering

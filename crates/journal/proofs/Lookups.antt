@@ -17,12 +17,13 @@ use Rattle.model.specs.declared.Layout.{Layout}
 use Rattle.model.proofs.Journals.{replay-kept}
 use Rattle.model.proofs.Order.{ordered-cong}
 use Rattle.model.proofs.Plans.{home-two}
-use Rattle.journal.specs.Scan.{padded, upTo, placesIn, orderOf, dueSections, sectionStores, storesFor, scanOf, Locates, storesBelow, storesIn, storeNumber, FoundFrom, missing, found, Located}
-use Rattle.journal.specs.declared.Location.{Location}
+use Rattle.section.specs.Locations.{Locates, storesBelow, storesIn, storeNumber, FoundFrom, missing, found}
+use Rattle.journal.specs.Scan.{padded, upTo, placesIn, orderOf, dueSections, sectionStores, storesFor, scanOf, Located}
+use Rattle.section.specs.declared.Location.{Location}
 use Rattle.journal.specs.declared.Scan.{Scan}
-use Rattle.journal.proofs.Counts.{plan-append, count-used, below-high, locates, number-low}
+use Rattle.section.proofs.Counts.{plan-append, count-used, below-high, locates, number-low}
 use Rattle.journal.proofs.Ordering.{orderIn, length-order, order-below}
-use Rattle.journal.proofs.Sizes.{per-high, sections-high}
+use Rattle.layout.proofs.Sizes.{per-high, sections-high}
 use Rattle.journal.proofs.Tables.{getD-padded, length-upTo, getD-upTo, length-mapped, getD-mapped}
 
 module _ (g : Layout) (v : List ℕ) where

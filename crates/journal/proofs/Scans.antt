@@ -1,25 +1,20 @@
--- Loops over the sectors of a section and over the sections of a journal: what each has found.
-use Prim.Native.Nat.{ℕ, zero, suc, _+_, _-_, _≤_, _<_, max}
+-- Loops over the sections of a journal, and over the sectors of one: what each has found.
+use Prim.Native.Nat.{ℕ, zero, suc, _-_, _≤_, _<_}
 use mathlib.Core.Bool.{Bool, true, false, not}
 use mathlib.Core.List.{List}
 use mathlib.Core.Logic.{_≢_}
 use mathlib.Core.Path.{_≡_, refl, sym, ap, _∙_}
 use native.Mathlib.Decide.{decLt}
-use native.Mathlib.Numerals.{add-one}
 use native.Mathlib.Omega.{arith}
 use borrow.Author.Tests.{eq-eqb, ne-eqb}
 use Rattle.octets.specs.Choice.{pick}
 use Rattle.octets.specs.Sectors.{sectorAt}
 use Rattle.model.specs.Layout.{sectionSize}
-use Rattle.model.specs.Section.{idOf, greatest, wholeId, allBelow}
+use Rattle.model.specs.Section.{idOf, wholeId, allBelow}
 use Rattle.model.specs.Journal.{sectionOf, sectionFor, wholeIds}
 use Rattle.model.specs.Open.{misplaced, firstBelow}
 use Rattle.model.specs.declared.Layout.{Layout}
 use Rattle.model.proofs.Journals.{all-below, below-all, whole-all, whole-not}
-
--- the greatest of one number more
-pub greatest-more : (n top x y : ℕ) (f : ℕ → ℕ) → top ≡ greatest n f → x ≡ f n → y ≡ max top x → y ≡ greatest (n + 1) f
-greatest-more n top x y f e q r = rw add-one (r ∙ ap (λ (z : ℕ). max z x) e ∙ ap (max (greatest n f)) q)
 
 -- ---- the scan of a section, left at the first sector whose id differs from that of sector 0
 

@@ -10,25 +10,20 @@
 -- sectionStores g v k : how many stores bring the used entries of section k home
 -- storesFor g v ks   : the same of each section of ks, in a table, and of all of them
 -- scanOf g v         : the scan of the volume v
--- placeOf t sec x    : the place of a replay that x names in the section sec
--- Locates g sec x p  : in the section sec, x names the place p, with a used entry and a store that there are
--- storesBelow g k sec i : the stores that bring the used entries below i home, in section k, whose bytes are sec
--- storesIn g k sec   : those of all its used entries
--- storeNumber g sec x : the number of x among the stores of its section, whose bytes are sec
--- FoundFrom g sec from n x : among the stores of the used entries from `from` on, x is number n; x has entry E where there are not so many
 -- Located g v x n    : x is store n of the replay, and the other stores of its section follow it there as they do in the section
 use Prim.Native.Nat.{ℕ, _+_, _-_, _≤_, _<_}
 use mathlib.Core.List.{List, [], _∷_, _++_, map}
 use mathlib.Core.Logic.{_≢_}
 use mathlib.Core.Path.{_≡_}
 use lib.ListN.{length, replicate, getD}
-use Rattle.model.specs.Layout.{mostSections, entryCount}
-use Rattle.model.specs.Section.{unused, entryOf, collect}
-use Rattle.model.specs.Journal.{sectionOf, wholeIds, dueIds, Found, ordered, usedEntry, usedOf, replay}
-use Rattle.model.specs.Store.{homeCount, Place, storeOf, plan, storesOf}
+use Rattle.model.specs.Layout.{mostSections}
+use Rattle.model.specs.Section.{collect}
+use Rattle.model.specs.Journal.{sectionOf, wholeIds, dueIds, Found, ordered, usedOf, replay}
+use Rattle.model.specs.Store.{storesOf}
 use Rattle.model.specs.Step.{noPlace, placeAt}
 use Rattle.model.specs.declared.Layout.{Layout}
-use Rattle.journal.specs.declared.Location.{Location}
+use Rattle.section.specs.Locations.{Locates, storesIn, storeNumber}
+use Rattle.section.specs.declared.Location.{Location}
 use Rattle.journal.specs.declared.Order.{Order}
 use Rattle.journal.specs.declared.Scan.{Scan}
 use Rattle.journal.specs.declared.Stores.{Stores}
@@ -72,32 +67,7 @@ scanOf g v =
       stores = storesFor g v (dueSections g v);
     }
 
--- ---- a place of the replay
-
-abbrev pub placeOf : ℕ → List ℕ → Location → Place
-placeOf t sec x = storeOf (record { section = x .section; place = x .entry; entry = entryOf t sec (x .entry) }) (x .store)
-
-pub record Locates (g : Layout) (sec : List ℕ) (x : Location) (p : Place) : Type 0 where
-  pub place : placeOf (g .width) sec x ≡ p
-  pub entry : x .entry < entryCount (g .width)
-  pub used : entryOf (g .width) sec (x .entry) .sector ≢ unused
-  pub store : x .store < homeCount g (entryOf (g .width) sec (x .entry))
-
--- ---- its number, in the section and in the replay
-
-abbrev pub storesBelow : Layout → ℕ → List ℕ → ℕ → List Place
-storesBelow g k sec i = plan g (collect i (λ j. usedEntry k j (entryOf (g .width) sec j)))
-
-abbrev pub storesIn : Layout → ℕ → List ℕ → List Place
-storesIn g k sec = plan g (usedOf (g .width) k sec)
-
-abbrev pub storeNumber : Layout → List ℕ → Location → ℕ
-storeNumber g sec x = length (storesBelow g (x .section) sec (x .entry)) + x .store
-
-pub data FoundFrom (g : Layout) (sec : List ℕ) (from n : ℕ) (x : Location) : Type 0 where
-  missing : x .entry ≡ entryCount (g .width) → length (storesIn g (x .section) sec) ≤ length (storesBelow g (x .section) sec from) + n → FoundFrom g sec from n x
-  found : Locates g sec x (getD (storesIn g (x .section) sec) (storeNumber g sec x) noPlace)
-      → storeNumber g sec x ≡ length (storesBelow g (x .section) sec from) + n → FoundFrom g sec from n x
+-- ---- a store of the replay
 
 pub record Located (g : Layout) (v : List ℕ) (x : Location) (n : ℕ) : Type 0 where
   pub section : x .section < g .sections

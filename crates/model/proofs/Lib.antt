@@ -19,3 +19,4 @@ pub mod Demand3
 pub mod Guarantees
 pub mod Advances
 pub mod ReadBack
+pub mod FirstRule

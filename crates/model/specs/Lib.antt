@@ -20,3 +20,4 @@ pub mod Advance
 pub mod Demand3
 pub mod Guarantees
 pub mod ReadBack
+pub mod FirstRule

@@ -1,5 +1,6 @@
 pub mod Numbers
 pub mod Parts
+pub mod Slices
 pub mod Sectors
 pub mod Choice
 pub mod Turns

@@ -1,6 +1,6 @@
 // What the volume's calls share beside the journal: the tests of loans and states, and document 01's tag.
 //
-// These are functions for the crates of this repository. The calls of crates setup and volume test loans and layout once; so a function here may have
+// These are functions for the crates of this repository. The calls test loans and layout once; so a function here may have
 // a `requires`, and every caller shows it.
 pub mod state;
 pub mod tag;

@@ -1,6 +1,5 @@
 // What is tested of loans and states: the model's specs/State.antt.
-use journal::layout;
-use journal::layout::SECTOR_SIZE;
+use layout::SECTOR_SIZE;
 use model::Layout;
 use model::Phase;
 use model::State;

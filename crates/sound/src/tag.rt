@@ -1,7 +1,6 @@
 // Document 01's tag: the one place where it is computed.
 ghost use mathlib.Core.Path.{_≡_};
 ghost use mathlib.Core.List.{_++_};
-ghost use Prim.Native.Nat.{_≤_};
 ghost use lib.ListN.{length};
 ghost use Rattle.octets.specs.Numbers.{le};
 ghost use Rattle.digest.specs.Sha256.{sha256};

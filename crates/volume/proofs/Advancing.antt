@@ -35,15 +35,17 @@ use Rattle.model.proofs.Advances.{step-quiet, all-same, advance-more}
 use Rattle.model.proofs.Homes.{home-length, home-sections}
 use Rattle.model.proofs.Plans.{home-two}
 use Rattle.model.proofs.Sections.{per-pos, length-empty}
-use Rattle.journal.specs.declared.Location.{Location}
+use Rattle.section.specs.declared.Location.{Location}
 use Rattle.journal.specs.declared.Scan.{Scan}
-use Rattle.journal.specs.Scan.{scanOf, Locates, Located}
-use Rattle.journal.proofs.Entries.{metadata-high, entry-end}
+use Rattle.section.specs.Locations.{Locates}
+use Rattle.journal.specs.Scan.{scanOf, Located}
+use Rattle.section.proofs.Entries.{metadata-high, entry-end}
 use Rattle.journal.proofs.Lookups.{scan-kept, located-kept}
-use Rattle.journal.proofs.Sizes.{width-high, section-inside}
-use Rattle.volume.specs.Results.{Leaves, advanced, stepAdded}
+use Rattle.layout.proofs.Sizes.{width-high, section-inside}
+use Rattle.volume_step.specs.Results.{Leaves}
+use Rattle.volume.specs.Results.{advanced, stepAdded}
 use Rattle.sound.proofs.Sound.{state-layout, fit-room, volume-below}
-use Rattle.volume.proofs.Steps.{scan-total, in-phase}
+use Rattle.volume_step.proofs.Steps.{scan-total, in-phase}
 
 -- ---- one step more
 

@@ -1,3 +1,2 @@
--- Laws that the proofs of the calls cite: what each test, and each way through a call, leads to.
-pub mod Steps
+-- Laws that the proofs of the call cite: what each way through it leads to.
 pub mod Advancing

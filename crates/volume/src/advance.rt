@@ -1,6 +1,6 @@
 // Advance: so many steps, one after the other; the model's specs/Advance.antt. A recovery scans the journal once for all of its steps, and goes from
 // each store straight to the next.
-use crate::step;
+
 use journal::Scan;
 use journal::journal as sections;
 use model::Advanced;
@@ -11,6 +11,8 @@ use model::State;
 use model::StepAnswer;
 use model::Stepped;
 use sound::state;
+use volume_step::recovery;
+use volume_step::step;
 ghost use mathlib.Core.Bool.{true, false, _&&_};
 ghost use mathlib.Core.List.{List};
 ghost use mathlib.Core.Path.{_≡_};
@@ -98,7 +100,7 @@ fn replay_from(before: Advanced, v: &mut [u8], found: Scan, k: usize, n: usize) 
     let mut x = sections::locate(found, v, g, k);
     let mut i = 0;
     while i < n {
-        let stepped = step::recover_step(last.state, v, k + i, total, x);
+        let stepped = recovery::recover_step(last.state, v, k + i, total, x);
         let answer = stepped.answer;
         if stores_in(answer) == 0 {
             return last;

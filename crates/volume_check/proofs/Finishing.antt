@@ -37,9 +37,9 @@ use Rattle.model.proofs.Homes.{home-length, home-sections}
 use Rattle.model.proofs.Invariant.{stateAt}
 use Rattle.model.proofs.Journals.{Every, every-append, every-replay, replay-kept}
 use Rattle.model.proofs.Sections.{per-pos, length-empty}
-use Rattle.journal.proofs.Sizes.{width-high, section-inside}
-use Rattle.setup.proofs.Queries.{refusal-no-pass, valid-layout}
-use Rattle.volume.proofs.Steps.{in-phase}
+use Rattle.layout.proofs.Sizes.{width-high, section-inside}
+use Rattle.volume_open.proofs.Queries.{refusal-no-pass, valid-layout}
+use Rattle.volume_step.proofs.Steps.{in-phase}
 use Rattle.volume.proofs.Advancing.{bytes-length, tag-length}
 use Rattle.volume_check.specs.Check.{RecoverResult, recovered, recoverFrom, recoverOf, isBad}
 use Rattle.volume_check.specs.Finishes.{EndsAfter, Ends, BadMeansTag, Finished, Finishes}

@@ -20,8 +20,8 @@ use Rattle.model.specs.Superblock.{superblockAt, layoutIn}
 use Rattle.model.specs.State.{Verdict, passed, refused}
 use Rattle.model.specs.Open.{superblockRows}
 use Rattle.model.specs.Query.{queryBy, queryWith, queryOf}
-use Rattle.journal.proofs.Sizes.{provided-low, sections-low, section-inside}
-use Rattle.setup.proofs.Queries.{valid-layout, held-layout, held-valid, held-room}
+use Rattle.layout.proofs.Sizes.{provided-low, sections-low, section-inside}
+use Rattle.volume_open.proofs.Queries.{valid-layout, held-layout, held-valid, held-room}
 use Rattle.volume_check.specs.declared.RecoverAnswer.{RecoverAnswer}
 use Rattle.volume_check.specs.declared.RecoverAnswer.the-variants as recovering
 use Rattle.volume_check.specs.Check.{RecoverResult, recoverOf, isBad}

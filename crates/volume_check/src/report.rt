@@ -1,7 +1,6 @@
 // The report of a check, as text: document 01, "Bench program".
 use crate::RecoverAnswer;
-use journal::layout;
-use journal::layout::SECTOR_SIZE;
+use layout::SECTOR_SIZE;
 use model::Layout;
 use model::QueryAnswer;
 use model::Refusal;

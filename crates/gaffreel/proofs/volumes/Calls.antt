@@ -29,8 +29,9 @@ use Rattle.model.specs.Open.{openOf}
 use Rattle.model.specs.Query.{queryOf}
 use Rattle.model.specs.Step.{StepResult, stepOf}
 use Rattle.model.specs.Advance.{advanceOf}
-use Rattle.batch.specs.Results.{written}
-use Rattle.volume.specs.Results.{advanced, Leaves}
+use Rattle.volume_batch.specs.Results.{written}
+use Rattle.volume_step.specs.Results.{Leaves}
+use Rattle.volume.specs.Results.{advanced}
 use Rattle.buffers.specs.declared.replies.Reply.{Reply}
 use Rattle.digest_calls.specs.Outcome.{wrongLength}
 use Rattle.buffers.specs.VolumeState.{decodeOf, encodeOf, encodesState, stateSize, layoutSize}

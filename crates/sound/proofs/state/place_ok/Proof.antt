@@ -1,6 +1,6 @@
 use borrow.Author.Needs.{needs}
 use Rattle.sound.proofs.Sound.{place-committing}
-use Rattle.journal.proofs.Sizes.{width-high}
+use Rattle.layout.proofs.Sizes.{width-high}
 use Rattle.sound.proofs.state.place_ok.Statement.{statement}
 use Rattle.sound.proofs.state.place_ok.Tie as tie
 

@@ -1,6 +1,6 @@
 use borrow.Author.Needs.{needs}
 use Rattle.model.specs.State.{stagingOk}
-use Rattle.journal.proofs.Sizes.{width-high}
+use Rattle.layout.proofs.Sizes.{width-high}
 use Rattle.sound.proofs.state.staging_ok.Statement.{statement}
 use Rattle.sound.proofs.state.staging_ok.Tie as tie
 

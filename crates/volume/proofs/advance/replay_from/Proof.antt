@@ -7,7 +7,7 @@ use Rattle.model.specs.Advance.{advanceFrom}
 use Rattle.volume.specs.Results.{advanced}
 use Rattle.journal.proofs.Lookups.{replay-high}
 use Rattle.sound.proofs.Sound.{state-layout, fit-room}
-use Rattle.volume.proofs.Steps.{scan-total}
+use Rattle.volume_step.proofs.Steps.{scan-total}
 use Rattle.volume.proofs.Advancing.{Underway, begins, ready, stops, ends, stores-next, continues, again}
 use Rattle.volume.proofs.advance.replay_from.Statement.{statement}
 use Rattle.volume.proofs.advance.replay_from.Tie as tie

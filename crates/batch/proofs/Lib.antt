@@ -1,4 +1,0 @@
--- Laws that the proofs of the calls cite: what each test, and each way through a call, leads to.
-pub mod Flushes
-pub mod Writes
-pub mod Reading

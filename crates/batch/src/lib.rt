@@ -1,5 +1,0 @@
-// The calls on a batch: write, flush and read. Document 01, "Working a volume". For any input each gives exactly what the definition of its name in the
-// model's specs gives, and none has a `requires`; crate volume passes them on with the others.
-pub mod flush;
-pub mod read;
-pub mod write;

@@ -1,0 +1,4 @@
+pub mod Ids
+pub mod Entries
+pub mod Clearing
+pub mod Counts

@@ -1,0 +1,81 @@
+use Prim.Native.Nat.{_+_, _-_, _≤_}
+use mathlib.Core.Logic.{⊎-elim}
+use mathlib.Core.Path.{refl, sym, _∙_, _≡_}
+use native.Mathlib.Omega.{arith}
+use lib.ListN.{length}
+use borrow.Author.Needs.{needs}
+use Rattle.model.specs.Layout.{entryCount}
+use Rattle.section.specs.Locations.{storesBelow, missing, found}
+use Rattle.layout.proofs.Sizes.{width-high}
+use Rattle.section.proofs.Counts.{count-used, count-unused, below-length, locates}
+use Rattle.section.proofs.location_in.Statement.{statement}
+use Rattle.section.proofs.location_in.Tie as tie
+
+abbrev Inv-loop : tie.InvT-loop
+Inv-loop g section k from n count left₀ i₀ left i = (count ≡ entryCount (g .width)) × (count ≤ 248) × (left + length (storesBelow g k section i) ≡ length (storesBelow g k section from) + n)
+
+abbrev μ-loop : tie.MeasureT-loop
+μ-loop g section k from n count left₀ i₀ left i = count - i
+
+entry-count-requires : tie.Need-entry-count-requires Inv-loop μ-loop
+entry-count-requires c κs =
+    let start = c .before in
+    width-high (start .args .g) (start .pre .0)
+
+loop-holds : tie.Need-loop-holds Inv-loop μ-loop
+loop-holds c = (c .entry-count .ensures .0, c .entry-count .ensures .1, omega arith)
+
+entry-sector-requires : tie.Need-entry-sector-requires Inv-loop μ-loop
+entry-sector-requires c κs =
+    let start = c .before .before .before .before in
+    (width-high (start .args .g) (start .pre .0), omega arith, start .pre .1)
+
+returns : tie.Need-returns Inv-loop μ-loop
+returns c =
+    let turn = c .before .before .before .before .loop in
+    let start = c .before .before .before .before .before .before .before in
+    let here = locates (start .args .g) (start .args .section .now) (record { section = start .args .k; entry = turn .i; store = turn .left }) (omega arith)
+    (λ q. c .before .if1 .taken (c .before .before .entry-sector .ensures ∙ q)) (omega arith) in
+    (found here (omega (arith, turn .inv .2)), refl)
+
+loop-again : tie.Need-loop-again Inv-loop μ-loop
+loop-again c =
+    let turn = c .before .before .before .loop in
+    let start = c .before .before .before .before .before .before in
+    let g = start .args .g in
+    let section = start .args .section .now in
+    ⊎-elim
+    (λ w. (
+      omega arith,
+      omega arith,
+      omega (arith, w .1 .left, w .2, turn .inv .2, count-used g (start .args .k) section (turn .i) (λ q. w .0 .taken (c .before .entry-sector .ensures ∙ q))),
+    ))
+    (λ w. (
+      omega arith,
+      omega arith,
+      omega (arith, w .1, turn .inv .2, count-unused g (start .args .k) section (turn .i) (sym (c .before .entry-sector .ensures) ∙ w .0 .left)),
+    ))
+    (c .if1 .came)
+
+returns-2 : tie.Need-returns-2 Inv-loop μ-loop
+returns-2 c =
+    let turn = c .before .loop in
+    let start = c .before .before .before .before in
+    let g = start .args .g in
+    let all = below-length g (start .args .k) (start .args .section .now) (entryCount (g .width)) (turn .i) (omega arith) in
+    (missing (turn .inv .0) (omega (arith, turn .inv .2)), refl)
+
+pub location-in-spec : {M : Type 1} → statement M
+location-in-spec =
+    tie.close
+    (tie.spec
+    Inv-loop
+    μ-loop
+    entry-count-requires
+    loop-holds
+    entry-sector-requires
+    returns
+    (λ c. search needs)
+    (λ c. search needs)
+    loop-again
+    returns-2)

@@ -1,5 +1,0 @@
--- Laws that the proofs of the calls cite: what each test, and each way through a call, leads to.
-pub mod Formats
-pub mod Queries
-pub mod Checks
-pub mod Opens

@@ -1,0 +1,3 @@
+-- Laws that the proofs of the calls cite: what each test, and each way through a call, leads to.
+pub mod Flushes
+pub mod Writes

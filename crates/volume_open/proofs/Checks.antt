@@ -1,0 +1,143 @@
+-- The check of the entries to be replayed: one law to a return, entry by entry, then section by section.
+use Prim.Native.Nat.{ℕ, zero, suc, _+_, _≤_, _<_}
+use mathlib.Core.Bool.{Bool, true, false, not}
+use mathlib.Core.List.{List, [], _∷_, _++_}
+use mathlib.Core.Logic.{_≢_}
+use mathlib.Core.Path.{_≡_, refl, sym, ap, _∙_}
+use native.Mathlib.Decide.{decLt}
+use native.Mathlib.Numerals.{add-one}
+use native.Mathlib.Omega.{arith}
+use lib.Dec.{leb}
+use lib.ListN.{length, take, drop, getD, drop-of-length-le}
+use lib.Seq.{take-all}
+use borrow.Author.Tests.{eq-eqb, ne-eqb, le-leb, lt-leb}
+use Rattle.octets.specs.Choice.{pick}
+use Rattle.octets.specs.Numbers.{le}
+use Rattle.octets.specs.Parts.{part, same}
+use Rattle.digest.specs.Sha256.{sha256}
+use Rattle.model.specs.declared.Layout.{Layout}
+use Rattle.model.specs.declared.Refusal.{Refusal}
+use Rattle.model.specs.declared.Refusal.the-variants.{JournalRange, JournalTagMismatch}
+use Rattle.model.specs.Section.{Entry, unused, collect}
+use Rattle.model.specs.Journal.{sectionOf, Replayed, usedEntry, usedOf}
+use Rattle.model.specs.Tag.{Tag, tagOf}
+use Rattle.model.specs.State.{Verdict, passed, refused}
+use Rattle.model.specs.Open.{entriesVerdict}
+use Rattle.journal.proofs.Lookups.{replayOf, replay-next}
+use Rattle.volume_open.specs.Results.{checkOf}
+use Rattle.volume_open.specs.declared.open.Check.{Check}
+use Rattle.volume_open.specs.declared.open.Check.the-variants.{Passed, Refused}
+
+-- ---- what is handed back tells the verdict
+
+pub check-passed : (w : Verdict) → checkOf w ≡ Passed → w ≡ passed
+check-passed passed e = refl
+check-passed (refused x) e = absurd (let z : _≡_ {A = ℕ} 0 1 = cc in omega arith)
+
+pub check-refused : (w : Verdict) (x : Refusal) → checkOf w ≡ Refused x → w ≡ refused x
+check-refused passed x e = absurd (let z : _≡_ {A = ℕ} 0 1 = cc in omega arith)
+check-refused (refused y) x e = cc
+
+-- the tag test: the entry's tag, against the first bytes of the digest
+pub entry-fits-is : (t : ℕ) (e : Entry) (n : ℕ) (b d s : List ℕ) (r : Bool) → n ≡ e .sector → b ≡ e .bytes → s ≡ e .tag → length s ≡ t
+    → d ≡ sha256 (le 8 n ++ b) → r ≡ same (part s 0 t) (part d 0 t) → r ≡ same (e .tag) (tagOf t (e .sector) (e .bytes))
+entry-fits-is t e n b d s r en eb es size ed er =
+    let whole : take t s ≡ s = take-all t s (omega arith) in
+    rw (er, ed, en, eb, whole, es)
+
+module _ (tag : Tag) (g : Layout) where
+  abbrev pub verdictOf : List Replayed → Verdict
+  verdictOf xs = entriesVerdict tag g xs
+
+  -- ---- one entry
+
+  module _ (k i : ℕ) (e : Entry) where
+    pub entry-unused : e .sector ≡ unused → Passed ≡ checkOf (verdictOf (usedEntry k i e))
+    entry-unused q = rw (eq-eqb (e .sector) unused q)
+
+    module _ (used : e .sector ≢ unused) where
+      pub entry-out-of-range : g .provided ≤ e .sector → Refused (JournalRange k i) ≡ checkOf (verdictOf (usedEntry k i e))
+      entry-out-of-range l = rw (ne-eqb (e .sector) unused used, le-leb (g .provided) (e .sector) l)
+
+      module _ (low : e .sector < g .provided) where
+        pub entry-mismatch : same (e .tag) (tag (e .sector) (e .bytes)) ≡ false → Refused (JournalTagMismatch k i) ≡ checkOf (verdictOf (usedEntry k i e))
+        entry-mismatch q = rw (ne-eqb (e .sector) unused used, lt-leb (g .provided) (e .sector) low, q)
+
+        pub entry-fits : same (e .tag) (tag (e .sector) (e .bytes)) ≡ true → Passed ≡ checkOf (verdictOf (usedEntry k i e))
+        entry-fits q = rw (ne-eqb (e .sector) unused used, lt-leb (g .provided) (e .sector) low, q)
+
+  -- ---- entries behind others
+
+  abbrev after : Verdict → Verdict → Verdict
+  after passed w = w
+  after (refused x) w = refused x
+
+  verdict-append : (a b : List Replayed) → verdictOf (a ++ b) ≡ after (verdictOf a) (verdictOf b)
+  verdict-append [] b = refl
+  verdict-append (x ∷ a) b =
+      go (leb (g .provided) (x .entry .sector)) (not (same (x .entry .tag) (tag (x .entry .sector) (x .entry .bytes)))) (verdict-append a b)
+    where
+      range : Verdict
+      range = refused (JournalRange (x .section) (x .place))
+
+      mismatch : Verdict
+      mismatch = refused (JournalTagMismatch (x .section) (x .place))
+
+      go : (p q : Bool) → verdictOf (a ++ b) ≡ after (verdictOf a) (verdictOf b)
+          → pick p range (pick q mismatch (verdictOf (a ++ b))) ≡ after (pick p range (pick q mismatch (verdictOf a))) (verdictOf b)
+      go true q ih = refl
+      go false true ih = refl
+      go false false ih = ih
+
+  passed-append : (a b : List Replayed) → verdictOf a ≡ passed → verdictOf (a ++ b) ≡ verdictOf b
+  passed-append a b e = verdict-append a b ∙ ap (λ (w : Verdict). after w (verdictOf b)) e
+
+  refused-append : (a b : List Replayed) (x : Refusal) → verdictOf a ≡ refused x → verdictOf (a ++ b) ≡ refused x
+  refused-append a b x e = verdict-append a b ∙ ap (λ (w : Verdict). after w (verdictOf b)) e
+
+  -- ---- the entries of a section: the first i of n pass
+
+  module _ (f : ℕ → List Replayed) (i : ℕ) (r : Check) (start : verdictOf (collect i f) ≡ passed) (found : r ≡ checkOf (verdictOf (f i))) where
+    pub entries-more : r ≡ Passed → verdictOf (collect (i + 1) f) ≡ passed
+    entries-more e =
+        ap (λ (n : ℕ). verdictOf (collect n f)) (add-one i) ∙ passed-append (collect i f) (f i) start ∙ check-passed (verdictOf (f i)) (sym found ∙ e)
+
+    refused-of : (x : Refusal) → r ≡ Refused x → (n : ℕ) → i < n → verdictOf (collect n f) ≡ refused x
+    refused-of x e zero l = absurd (omega arith)
+    refused-of x e (suc n) l = go (refused-of x e n) (decLt i n)
+      where
+        go : (i < n → verdictOf (collect n f) ≡ refused x) → Dec (i < n) → verdictOf (collect (suc n) f) ≡ refused x
+        go ih (yes m) = refused-append (collect n f) (f n) x (ih m)
+        go ih (no m) =
+            let last : n ≡ i = omega arith in
+            ap (λ (j : ℕ). verdictOf (collect (suc j) f)) last ∙ passed-append (collect i f) (f i) start
+            ∙ check-refused (verdictOf (f i)) x (sym found ∙ e)
+
+    pub entries-stop : (x : Refusal) → r ≡ Refused x → (n : ℕ) → i < n → r ≡ checkOf (verdictOf (collect n f))
+    entries-stop x e n l = e ∙ ap checkOf (sym (refused-of x e n l))
+
+  -- ---- the sections of the replay: what is left from section i on
+
+  module _ (v ks : List ℕ) (w : Verdict) (i : ℕ) (left : w ≡ verdictOf (replayOf g v (drop i ks))) where
+    pub sections-end : length ks ≤ i → Passed ≡ checkOf w
+    sections-end l = sym (ap checkOf (left ∙ ap (λ (x : List ℕ). verdictOf (replayOf g v x)) (drop-of-length-le ks {i = i} l)))
+
+    module _ (l : i < length ks) (k : ℕ) (at : k ≡ getD ks i 0) (sec : List ℕ) (is : sec ≡ sectionOf g v k) (r : Check)
+        (found : r ≡ checkOf (verdictOf (usedOf (g .width) k sec))) where
+      abbrev here : List Replayed
+      here = usedOf (g .width) (getD ks i 0) (sectionOf g v (getD ks i 0))
+
+      found-here : r ≡ checkOf (verdictOf here)
+      found-here =
+          found ∙ ap (λ (x : List ℕ). checkOf (verdictOf (usedOf (g .width) k x))) is
+          ∙ ap (λ (n : ℕ). checkOf (verdictOf (usedOf (g .width) n (sectionOf g v n)))) at
+
+      split : w ≡ verdictOf (here ++ replayOf g v (drop (i + 1) ks))
+      split = left ∙ ap verdictOf (replay-next g v ks i l)
+
+      pub sections-more : r ≡ Passed → w ≡ verdictOf (replayOf g v (drop (i + 1) ks))
+      sections-more e = split ∙ passed-append here (replayOf g v (drop (i + 1) ks)) (check-passed (verdictOf here) (sym found-here ∙ e))
+
+      pub sections-stop : (x : Refusal) → r ≡ Refused x → r ≡ checkOf w
+      sections-stop x e =
+          e ∙ ap checkOf (sym (split ∙ refused-append here (replayOf g v (drop (i + 1) ks)) x (check-refused (verdictOf here) x (sym found-here ∙ e))))

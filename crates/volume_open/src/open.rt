@@ -1,0 +1,153 @@
+// Open: document 01, "Working a volume"; the model's specs/Open.antt. It checks every entry to be replayed before anything is changed, so that a
+// refused open leaves the staging loan as it was, and a replay stores no sector whose tag does not fit.
+use crate::query;
+use journal::Order;
+use journal::journal as sections;
+use layout::SECTOR_SIZE;
+use model::Layout;
+use model::OpenAnswer;
+use model::Phase;
+use model::QueryAnswer;
+use model::Refusal;
+use model::State;
+use section::UNUSED;
+use sound::state;
+use sound::state::LAST_ID;
+use sound::tag;
+ghost use mathlib.Core.Bool.{true};
+ghost use mathlib.Core.Path.{_≡_};
+ghost use Prim.Native.Nat.{_*_, _≤_, _<_};
+ghost use lib.ListN.{length};
+ghost use Rattle.octets.specs.Choice.{firstMet};
+ghost use Rattle.model.specs.Layout.{entryCount, sectionSize, needed, layoutOk};
+ghost use Rattle.model.specs.Section.{entryOf};
+ghost use Rattle.model.specs.Superblock.{superblockAt, layoutIn};
+ghost use Rattle.model.specs.Journal.{usedEntry, usedOf, replay};
+ghost use Rattle.model.specs.Tag.{tagOf};
+ghost use Rattle.model.specs.State.{passed};
+ghost use Rattle.model.specs.Open.{superblockRows, entriesVerdict, phaseFor, openWith, openOf};
+ghost use Rattle.journal.specs.Scan.{orderOf, dueSections};
+ghost use Rattle.volume_open.specs.Results.{checkOf};
+
+// What the check of entries to be replayed found.
+enum Check {
+    Passed,
+    Refused(Refusal),
+}
+
+// Whether entry i of section k, if it is used, can be replayed.
+fn check_entry(g: Layout, section: &[u8], k: usize, i: usize) -> Check
+    requires { ⌜ (layoutOk g ≡ true) × (length (now section) ≡ sectionSize (g .width) * 512) × (i < entryCount (g .width)) ⌝ }
+    ensures { λ r. ⌜ r ≡ checkOf (entriesVerdict (tagOf (g .width)) g (usedEntry k i (entryOf (g .width) (now (section .entry)) i))) ⌝ }
+{
+    let sector = section::entry_sector(section, g.width, i);
+    if sector == UNUSED {
+        return Check::Passed;
+    }
+    if g.provided as u64 <= sector {
+        return Check::Refused(Refusal::JournalRange(k, i));
+    }
+    let mut bytes = [0u8; SECTOR_SIZE];
+    section::entry_data(section, g.width, i, &mut bytes);
+    let digest = tag::tag(sector as usize, &bytes);
+    let stored = section::entry_tag(section, g.width, i);
+    if !octets::same_at(stored, 0, &digest, 0, g.width) {
+        return Check::Refused(Refusal::JournalTagMismatch(k, i));
+    }
+    Check::Passed
+}
+
+// Whether every used entry of section k can be replayed; else the refusal for the first that cannot.
+fn check_section(g: Layout, section: &[u8], k: usize) -> Check
+    requires { ⌜ (layoutOk g ≡ true) × (length (now section) ≡ sectionSize (g .width) * 512) ⌝ }
+    ensures { λ r. ⌜ r ≡ checkOf (entriesVerdict (tagOf (g .width)) g (usedOf (g .width) k (now (section .entry)))) ⌝ }
+{
+    let count = layout::entry_count(g.width);
+    let mut i = 0;
+    while i < count {
+        let check = check_entry(g, section, k, i);
+        match check {
+            Check::Passed => {}
+            Check::Refused(_) => return check,
+        }
+        i += 1;
+    }
+    Check::Passed
+}
+
+// Whether every entry to be replayed can be, in replay order.
+fn check_replay(v: &[u8], g: Layout, order: Order) -> Check
+    requires { ⌜ (layoutOk g ≡ true) × (needed g * 512 ≤ length (now v)) × (order ≡ orderOf (dueSections g (now v))) ⌝ }
+    ensures { λ r. ⌜ r ≡ checkOf (entriesVerdict (tagOf (g .width)) g (replay g (now (v .entry)))) ⌝ }
+{
+    let due = order.sections;
+    let count = order.count;
+    let mut i = 0;
+    while i < count {
+        let k = due[i];
+        let check = check_section(g, sections::section_of(v, g, k), k);
+        match check {
+            Check::Passed => {}
+            Check::Refused(_) => return check,
+        }
+        i += 1;
+    }
+    Check::Passed
+}
+
+// The phase of a volume with so many stores to come.
+fn phase_for(stores: usize) -> Phase
+    ensures { λ r. ⌜ r ≡ phaseFor stores ⌝ }
+{
+    if stores == 0 {
+        return Phase::Filling;
+    }
+    Phase::Recovering(0)
+}
+
+// Opens a volume whose superblock and length are as they must be.
+fn open_journal(v: &[u8], st: &mut [u8], g: Layout) -> OpenAnswer
+    requires { ⌜ (layoutOk g ≡ true) × (needed g * 512 ≤ length (now v)) × (firstMet (superblockRows g (g .reserved) (now v)) passed ≡ passed) ⌝ }
+    ensures { λ a. ⌜ record { answer = a; staging = now (st .exit) } ≡ openWith (tagOf (g .width)) g (g .reserved) (now (v .entry)) (now (st .entry)) ⌝ }
+{
+    if !state::staging_ok(g, st) {
+        return OpenAnswer::Refused(Refusal::Malformed);
+    }
+    let greatest = sections::greatest_id(v, g);
+    let found = sections::scan(v, g);
+    let misplaced = sections::first_misplaced(found, g);
+    let count = g.sections;
+    if greatest == LAST_ID {
+        return OpenAnswer::Refused(Refusal::Exhausted);
+    }
+    if misplaced < count {
+        return OpenAnswer::Refused(Refusal::Misplaced(misplaced));
+    }
+    let order = found.order;
+    let check = check_replay(v, g, order);
+    match check {
+        Check::Passed => {}
+        Check::Refused(refusal) => return OpenAnswer::Refused(refusal),
+    }
+    section::clear_section(st, g.width);
+    let stores = found.stores;
+    let opened = State {
+        layout: g,
+        phase: phase_for(stores.total),
+        count: 0,
+        id: greatest + 1,
+    };
+    OpenAnswer::Opened(opened, stores.total)
+}
+
+// Checks volume and journal, makes the staging loan an empty batch, and gives the state and the number of stores that replay the journal. It stores
+// nothing on the volume.
+pub fn open(v: &[u8], st: &mut [u8], r: usize) -> OpenAnswer
+    ensures { λ a. ⌜ record { answer = a; staging = now (st .exit) } ≡ openOf (tagOf (layoutIn r (superblockAt r (now (v .entry))) .width)) r (now (v .entry)) (now (st .entry)) ⌝ }
+{
+    let held = query::query(v, r);
+    match held {
+        QueryAnswer::Holds(g, _) => open_journal(v, st, g),
+        QueryAnswer::Refused(refusal) => OpenAnswer::Refused(refusal),
+    }
+}

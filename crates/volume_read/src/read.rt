@@ -1,0 +1,89 @@
+// Read: document 01, "Working a volume"; the model's specs/Read.antt.
+use layout::SECTOR_SIZE;
+use model::Layout;
+use model::ReadAnswer;
+use model::Refusal;
+use model::State;
+use sound::state;
+use sound::tag;
+ghost use mathlib.Core.Bool.{true};
+ghost use mathlib.Core.Path.{_≡_};
+ghost use Prim.Native.Nat.{_*_, _≤_, _<_};
+ghost use lib.ListN.{length};
+ghost use Rattle.octets.specs.Parts.{same};
+ghost use Rattle.octets.specs.Sectors.{sectorAt};
+ghost use Rattle.model.specs.Layout.{entryCount, sectionSize, dataAt, needed, layoutOk};
+ghost use Rattle.model.specs.Tag.{tagOf, tagAt};
+ghost use Rattle.model.specs.Read.{readOf};
+ghost use Rattle.volume_read.specs.Newest.{newestPlace};
+
+// The place of the newest of the first c staged entries for a sector; c where there is none.
+fn newest_place(st: &[u8], t: usize, c: usize, sector: usize) -> usize
+    requires { ⌜ (t ≤ 32) × (c ≤ entryCount t) × (length (now st) ≡ sectionSize t * 512) ⌝ }
+    ensures { λ r. ⌜ r ≡ newestPlace t (now (st .entry)) c c sector ⌝ }
+{
+    let mut i = c;
+    while 0 < i {
+        i -= 1;
+        if section::entry_sector(st, t, i) == sector as u64 {
+            return i;
+        }
+    }
+    c
+}
+
+// Whether the tag of a sector fits its data.
+fn tag_fits(v: &[u8], g: Layout, sector: usize) -> bool
+    requires { ⌜ (layoutOk g ≡ true) × (needed g * 512 ≤ length (now v)) × (sector < g .provided) ⌝ }
+    ensures { λ r. ⌜ r ≡ same (tagAt g (now (v .entry)) sector) (tagOf (g .width) sector (sectorAt (now (v .entry)) (dataAt g sector))) ⌝ }
+{
+    let start = layout::data_at(g, sector) * SECTOR_SIZE;
+    let end = start + SECTOR_SIZE;
+    let digest = tag::tag(sector, &v[start..end]);
+    octets::same_at(v, layout::tag_byte(g, sector), &digest, 0, g.width)
+}
+
+// Gives the newest entry for a sector in staging; else the volume's data if its tag fits.
+pub fn read(s: State, v: &[u8], st: &[u8], sector: usize, bytes: &mut [u8]) -> ReadAnswer
+    ensures { λ r. ⌜ record { answer = r; sector = now (bytes .exit) } ≡ readOf (tagOf (s .layout .width)) s (now (v .entry)) (now (st .entry)) sector (now (bytes .entry)) ⌝ }
+{
+    if !state::state_ok(s) {
+        return ReadAnswer::Refused(Refusal::Malformed);
+    }
+    if !state::volume_ok(s, v) {
+        return ReadAnswer::Refused(Refusal::Malformed);
+    }
+    let g = s.layout;
+    if !state::staging_ok(g, st) {
+        return ReadAnswer::Refused(Refusal::Malformed);
+    }
+    if bytes.len() != SECTOR_SIZE {
+        return ReadAnswer::Refused(Refusal::Malformed);
+    }
+    let p = s.phase;
+    let recovering = state::is_recovering(p);
+    let provided = g.provided;
+    if recovering {
+        return ReadAnswer::Refused(Refusal::NotNow);
+    }
+    if provided <= sector {
+        return ReadAnswer::Refused(Refusal::Range);
+    }
+    let count = s.count;
+    let place = newest_place(st, g.width, count, sector);
+    if place < count {
+        section::entry_data(st, g.width, place, bytes);
+        return ReadAnswer::Found;
+    }
+    if !tag_fits(v, g, sector) {
+        return ReadAnswer::Refused(Refusal::TagMismatch(sector));
+    }
+    octets::copy_at(
+        bytes,
+        0,
+        v,
+        layout::data_at(g, sector) * SECTOR_SIZE,
+        SECTOR_SIZE,
+    );
+    ReadAnswer::Found
+}

@@ -1,0 +1,2 @@
+-- What the code hands back, beside the model's results.
+pub mod Results
