@@ -2,10 +2,10 @@
 use Prim.Native.Nat.{ℕ}
 use mathlib.Core.Path.{_≡_, refl}
 use mathlib.Core.List.{List, [], _∷_}
-use Rattle.digest.specs.Words.{rotr, Ch, Maj, Σ₀, Σ₁, σ₀, σ₁}
-use Rattle.digest.specs.Constants.{K}
+use Rattle.compression.specs.Words.{rotr, Ch, Maj, Σ₀, Σ₁, σ₀, σ₁}
+use Rattle.compression.specs.Constants.{K}
 use Rattle.digest.specs.Padding.{zeroBytesOf, paddingOf, bytesOf}
-use Rattle.digest.specs.Compression.{wordOf, nextOf, scheduleOf, variablesOf, roundOf, roundsOf, addedOf, compressOf, hashOf}
+use Rattle.compression.specs.Compression.{wordOf, nextOf, scheduleOf, variablesOf, roundOf, roundsOf, addedOf, compressOf, hashOf}
 use Rattle.digest.specs.Sha256.{sha256}
 
 -- "abc"

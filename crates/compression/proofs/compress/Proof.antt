@@ -1,0 +1,13 @@
+use borrow.Author.Needs.{needs}
+use Rattle.compression.specs.Compression.{compressOf}
+use Rattle.compression.proofs.compress.Statement.{statement}
+use Rattle.compression.proofs.compress.Tie as tie
+
+returns : tie.Need-returns
+unfolding compressOf
+returns c = cc
+
+pub compress-spec : {M : Type 1} → statement M
+compress-spec =
+    tie.close
+    (tie.spec (λ c κs. search needs) (λ c κs. search needs) (λ c κs. search needs) (λ c κs. search needs) returns)

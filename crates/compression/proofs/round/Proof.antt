@@ -1,0 +1,25 @@
+use borrow.Author.Needs.{needs}
+use Rattle.compression.specs.Compression.{roundOf}
+use Rattle.compression.proofs.round.Statement.{statement}
+use Rattle.compression.proofs.round.Tie as tie
+
+returns : tie.Need-returns
+unfolding roundOf
+returns c = cc
+
+pub round-spec : {M : Type 1} → statement M
+round-spec =
+    tie.close
+    (tie.spec
+    (λ c κs. search needs)
+    (λ c κs. search needs)
+    (λ c κs. search needs)
+    (λ c κs. search needs)
+    (λ c κs. search needs)
+    (λ c κs. search needs)
+    (λ c κs. search needs)
+    (λ c κs. search needs)
+    (λ c κs. search needs)
+    (λ c κs. search needs)
+    (λ c κs. search needs)
+    returns)
