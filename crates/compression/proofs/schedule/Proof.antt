@@ -2,9 +2,10 @@ use Prim.Native.Nat.{_-_, _≤_}
 use mathlib.Core.Path.{sym, _∙_, _≡_}
 use native.Mathlib.Omega.{arith}
 use lib.Seq.{take-all}
-use lib.ListN.{length, take, length-set}
+use lib.ListN.{length, getD, take, length-set}
 use borrow.Author.Needs.{needs}
 use Rattle.compression.proofs.Turns.{schedule-turn}
+use Rattle.compression.specs.Words.{_⊞_}
 use Rattle.compression.specs.Compression.{scheduleOf}
 use Rattle.compression.proofs.schedule.Statement.{statement}
 use Rattle.compression.proofs.schedule.Tie as tie
@@ -20,11 +21,14 @@ loop-holds c = (search needs, search needs, c .block-words .ensures .1, c .block
 
 loop-again : tie.Need-loop-again Inv-loop μ-loop
 loop-again c =
-    let turn = c .before .before .before .before .before .before .loop in (
+    let turn = c .before .before .before .before .before .before .loop in
+    let x = c .before .before .before .add .ensures ∙ (λ i. c .before .before .before .before .small-sigma1 .ensures i ⊞ getD (turn .w) (turn .t - 7) 0) in
+    let y = c .before .add2 .ensures ∙ (λ i. x i ⊞ c .before .before .small-sigma0 .ensures i) in
+    let word = c .add3 .ensures ∙ (λ i. y i ⊞ getD (turn .w) (turn .t - 16) 0) in (
       omega arith,
       omega arith,
       simp length-set (search needs),
-      schedule-turn _ (turn .w) (turn .t) (c .add3 .result) (omega arith) (omega arith) (turn .inv .3) (cc),
+      schedule-turn _ (turn .w) (turn .t) (c .add3 .result) (omega arith) (omega arith) (turn .inv .3) word,
     )
 
 returns : tie.Need-returns Inv-loop μ-loop
