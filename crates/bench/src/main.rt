@@ -1,8 +1,8 @@
-// The bench program: document 01, "Bench program". Reads an image from standard input and prints its report; volume_check says what that is.
+// The bench program: document 01, "Bench program". Reads an image from standard input and prints its report; volume_report says what that is.
 use libc::STDIN_FILENO;
 use libc::STDOUT_FILENO;
-use volume_check::report::REPORT_SIZE;
-use volume_check::report::report;
+use volume_report::REPORT_SIZE;
+use volume_report::report;
 
 // One byte more than the longest image, so that a longer input is seen to be one.
 const INPUT_SIZE: usize = 65537;

@@ -10,7 +10,7 @@ use lib.Seq.{take-all, take-at, drop-append-add, length-take-le}
 use Rattle.octets.specs.Parts.{part, patch}
 use Rattle.octets.proofs.Parts.{patch-join, part-all, drop-replicate}
 use Rattle.digest.specs.declared.State.{State}
-use Rattle.digest.specs.Compression.{compressOf, hashOf}
+use Rattle.compression.specs.Compression.{compressOf, hashOf}
 use Rattle.digest.specs.Pieces.{heldOf, filledOf, absorbOf}
 
 -- ---- blocks

@@ -1,6 +1,4 @@
 -- Laws that the proofs of the functions cite.
-pub mod Rotation
-pub mod Rounds
 pub mod Absorb
 pub mod Closing
 pub mod Padding

@@ -1,7 +1,4 @@
--- The definitions that the contracts cite, in the order of FIPS 180-4, then the calls.
-pub mod Words
-pub mod Constants
+-- The definitions that the contracts cite, in the order of FIPS 180-4, then the calls. Words, constants and the hash of a block are in crate compression.
 pub mod Padding
-pub mod Compression
 pub mod Sha256
 pub mod Pieces

@@ -19,9 +19,9 @@ use Rattle.digest.specs.declared.Answer.the-variants.{Taken, TooLong}
 use Rattle.digest.specs.declared.State.{State}
 use Rattle.digest.specs.declared.Updated.{Updated}
 use Rattle.digest.specs.declared.Closed.{Closed}
-use Rattle.digest.specs.Constants.{initialHash}
+use Rattle.compression.specs.Constants.{initialHash}
 use Rattle.digest.specs.Padding.{paddingOf, bytesOf}
-use Rattle.digest.specs.Compression.{hashOf}
+use Rattle.compression.specs.Compression.{hashOf}
 use Rattle.digest.specs.Sha256.{sha256}
 
 abbrev pub limit : ℕ

@@ -9,8 +9,8 @@ pub mod Examples
 use Prim.Native.Nat.{ℕ, _/_}
 use mathlib.Core.List.{List, _++_}
 use lib.ListN.{length}
-use Rattle.digest.specs.Constants.{initialHash}
-use Rattle.digest.specs.Compression.{hashOf}
+use Rattle.compression.specs.Constants.{initialHash}
+use Rattle.compression.specs.Compression.{hashOf}
 use Rattle.digest.specs.Padding.{paddingOf, bytesOf}
 
 abbrev paddedOf : List ℕ → List ℕ

@@ -1,6 +1,3 @@
--- Laws that the proofs of the check and its report cite, and the proof that a recovery ends.
+-- Laws that the proofs of the check cite, and the proof that a recovery ends.
 pub mod Checks
 pub mod Finishing
-pub mod Digits
-pub mod Texts
-pub mod Reporting

@@ -1,4 +1,3 @@
--- The check of a whole volume, that its recovery ends, and the lines that report it.
+-- The check of a whole volume, and that its recovery ends.
 pub mod Check
 pub mod Finishes
-pub mod Report

@@ -10,9 +10,9 @@ use Rattle.octets.specs.Numbers.{Bytes, be}
 use Rattle.octets.proofs.Numbers.{length-be, bytes-be, bytes-nil}
 use Rattle.octets.proofs.Parts.{part-append-left, bytes-append}
 use Rattle.digest.specs.declared.State.{State}
-use Rattle.digest.specs.Compression.{addedOf, compressOf, hashOf}
+use Rattle.compression.specs.Compression.{addedOf, compressOf, hashOf}
 use Rattle.digest.specs.Padding.{bytesOf}
-use Rattle.digest.specs.Constants.{initialHash}
+use Rattle.compression.specs.Constants.{initialHash}
 use Rattle.digest.specs.Pieces.{freshOf, heldOf, wholeOf, filledOf, absorbOf}
 
 -- ---- lengths and bytes

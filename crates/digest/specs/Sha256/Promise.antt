@@ -11,8 +11,8 @@ use borrow.Author.Tests.{le-ltb, lt-ltb, ltb-false}
 use Rattle.octets.specs.Numbers.{Bytes}
 use Rattle.digest.specs.declared.Answer.the-variants.{Taken, TooLong}
 use Rattle.digest.specs.declared.State.{State}
-use Rattle.digest.specs.Constants.{initialHash}
-use Rattle.digest.specs.Compression.{hashOf}
+use Rattle.compression.specs.Constants.{initialHash}
+use Rattle.compression.specs.Compression.{hashOf}
 use Rattle.digest.specs.Padding.{paddingOf, bytesOf}
 use Rattle.digest.specs.Pieces.{limit, freshOf, absorbOf, refusedPieceOf, updateOf, closeOf, finishOf, digestOf}
 use Rattle.digest.specs.Sha256.{sha256, paddedOf}

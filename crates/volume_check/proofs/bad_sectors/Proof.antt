@@ -21,17 +21,17 @@ Inv-loop s v st flags₀ count₀ i₀ flags count i = (i ≤ length flags₀) �
 abbrev μ-loop : tie.MeasureT-loop
 μ-loop s v st flags₀ count₀ i₀ flags count i = length flags₀ - i
 
--- src/lib.rt:66:5
+-- src/lib.rt:64:5
 loop-holds : tie.Need-loop-holds Inv-loop μ-loop
 loop-holds c =
     let bad = isBad (c .before .before .before .args .s) (c .before .before .before .args .v .now) (c .before .before .before .args .st .now) in
     (omega arith, refl, paste-zero (c .before .before .before .args .flags .now) 0 (flagsOf bad (length (c .before .before .before .args .flags .now))), refl, omega arith)
 
--- src/lib.rt:69:9
+-- src/lib.rt:67:9
 add-count : tie.Need-add-count Inv-loop μ-loop
 add-count c = omega (arith, c .before .before .before .loop .inv .4, c .before .before .before .loop .inv .0, c .flag .ensures .1, c .before .before .before .before .before .before .before .good)
 
--- src/lib.rt:66:5
+-- src/lib.rt:64:5
 loop-again : tie.Need-loop-again Inv-loop μ-loop
 loop-again c =
     let bad = isBad (c .before .before .before .before .before .before .before .args .s) (c .before .before .before .before .before .before .before .args .v .now) (c .before .before .before .before .before .before .before .args .st .now) in
@@ -47,7 +47,7 @@ loop-again c =
       omega (arith, c .before .before .before .loop .inv .4, c .flag .ensures .1),
     )
 
--- src/lib.rt:61:1
+-- src/lib.rt:59:1
 returns : tie.Need-returns Inv-loop μ-loop
 returns c =
     let bad = isBad (c .before .before .before .before .before .args .s) (c .before .before .before .before .before .args .v .now) (c .before .before .before .before .before .args .st .now) in

@@ -4,7 +4,7 @@ use native.Mathlib.Omega.{arith}
 use lib.ListN.{length}
 use borrow.Author.Needs.{needs}
 use Rattle.digest.proofs.Absorb.{hash-turn}
-use Rattle.digest.specs.Compression.{hashOf}
+use Rattle.compression.specs.Compression.{hashOf}
 use Rattle.digest.proofs.pieces.hash.Statement.{statement}
 use Rattle.digest.proofs.pieces.hash.Tie as tie
 

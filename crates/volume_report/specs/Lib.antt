@@ -1,0 +1,2 @@
+-- The lines that report a check.
+pub mod Report

@@ -1,0 +1,132 @@
+-- The report of a check, as text: document 01, "Bench program".
+--
+-- bytesOf s       : the bytes of a text: the ASCII code of each character
+-- decimal n       : a number in decimal, without leading zeros; n is below 10^20
+-- fieldOf w n     : a word, then a number
+-- lineOf w n      : the same as the end of a line
+-- refusedLine r   : "prints `refused` and the number"
+-- layoutLine g    : the first line of a check
+-- badLines bad n  : "`bad-sector s` for each bad one, ascending", of the sectors below n
+-- checkText ..    : the lines of a check: the layout, how many stores open reported, the bad sectors, how many they are
+-- reportOf v      : the report of the image v: its text, and the image afterwards
+-- FreshPrints     : document 01's example
+-- Puts .., Reports .. : that a call put a text, or a report, in a loan
+use Prim.Native.Char.{code}
+use Prim.Native.String.{String, [] as noText, _∷_ as _then_}
+use Prim.Native.Nat.{ℕ, zero, suc, _+_, _*_, _/_}
+use mathlib.Core.Bool.{Bool, false}
+use mathlib.Core.List.{List, [], _∷_, _++_}
+use mathlib.Core.Path.{_≡_}
+use lib.ListN.{length, getD, replicate}
+use lib.Dec.{ltb, eqb}
+use Rattle.io.specs.Digits.{digits}
+use Rattle.octets.specs.Choice.{pick}
+use Rattle.octets.specs.Parts.{patch}
+use Rattle.octets.specs.Sectors.{sectorSize}
+use Rattle.model.specs.declared.Layout.{Layout}
+use Rattle.model.specs.declared.QueryAnswer.{QueryAnswer}
+use Rattle.model.specs.declared.QueryAnswer.the-variants as querying
+use Rattle.model.specs.declared.Refusal.{Refusal}
+use Rattle.model.specs.declared.Refusal.the-variants.{Malformed}
+use Rattle.model.specs.Layout.{runLength}
+use Rattle.model.specs.Refusal.{numberOf}
+use Rattle.model.specs.Section.{collect}
+use Rattle.model.specs.Query.{queryOf}
+use Rattle.volume_check.specs.Check.{RecoverResult, recoverOf, isBad, countOf}
+use Rattle.volume_check.specs.declared.RecoverAnswer.{RecoverAnswer}
+use Rattle.volume_check.specs.declared.RecoverAnswer.the-variants.{Recovered, Refused}
+
+-- "an image of at most 128 sectors"
+abbrev pub mostSectors : ℕ
+mostSectors = 128
+
+-- ---- words and numbers
+
+abbrev pub bytesOf : String → List ℕ
+bytesOf noText = []
+bytesOf (c then s) = code c ∷ bytesOf s
+
+-- how many digits n has, where they are at most most + 1
+abbrev pub places : (most : ℕ) → ℕ → ℕ
+places zero n = 1
+places (suc most) n = pick (ltb n 10) 1 (suc (places most (n / 10)))
+
+unfoldable pub decimal : ℕ → List ℕ
+decimal n = digits 10 (places 19 n) n
+
+abbrev pub fieldOf : String → ℕ → List ℕ
+fieldOf w n = bytesOf w ++ decimal n
+
+abbrev pub newline : List ℕ
+newline = bytesOf "\n"
+
+abbrev pub lineOf : String → ℕ → List ℕ
+lineOf w n = fieldOf w n ++ newline
+
+-- ---- lines
+
+abbrev pub refusedLine : Refusal → List ℕ
+refusedLine r = lineOf "refused " (numberOf r)
+
+abbrev pub layoutLine : Layout → List ℕ
+layoutLine g =
+    fieldOf "tag " (g .width) ++ fieldOf " run " (runLength g) ++ fieldOf " sections " (g .sections) ++ lineOf " provided " (g .provided)
+
+abbrev pub badLine : ℕ → List ℕ
+badLine s = lineOf "bad-sector " s
+
+abbrev pub badLines : (ℕ → Bool) → ℕ → List ℕ
+badLines bad n = collect n (λ s. pick (bad s) (badLine s) [])
+
+-- whether a byte of a list of flags is 1
+abbrev pub flagged : List ℕ → ℕ → Bool
+flagged flags s = eqb (getD flags s 0) 1
+
+abbrev pub checkedText : Layout → ℕ → (ℕ → Bool) → ℕ → List ℕ
+checkedText g stores bad count = layoutLine g ++ lineOf "replay " stores ++ badLines bad (g .provided) ++ lineOf "bad " count
+
+abbrev pub checkText : Layout → ℕ → (ℕ → Bool) → List ℕ
+checkText g stores bad = checkedText g stores bad (countOf bad (g .provided))
+
+-- ---- the report of an image
+
+pub record Report : Type 0 where
+  pub text : List ℕ
+  pub image : List ℕ
+
+abbrev pub refusedReport : List ℕ → Refusal → Report
+refusedReport v r = record { text = refusedLine r; image = v }
+
+abbrev pub reportBy : Layout → RecoverAnswer → List ℕ → List ℕ → Report
+reportBy g (Recovered s n) v st = record { text = checkText g n (isBad s v st); image = v }
+reportBy g (Refused r) v st = refusedReport v r
+
+abbrev pub reportFrom : Layout → RecoverResult → Report
+reportFrom g o = reportBy g (o .answer) (o .volume) (o .staging)
+
+-- "The staging length follows from the superblock"
+abbrev pub reportHeld : List ℕ → QueryAnswer → Report
+reportHeld v (querying.Holds g n) = reportFrom g (recoverOf 0 v (replicate n 0))
+reportHeld v (querying.Refused r) = refusedReport v r
+
+-- "A refused opening, or input too long (1)"
+unfoldable pub reportOf : List ℕ → Report
+reportOf v = pick (ltb (mostSectors * sectorSize) (length v)) (refusedReport v Malformed) (reportHeld v (queryOf 0 v))
+
+-- "A fresh image with T 32, N 16, S 1, P 16 prints exactly": no store to come, and no bad sector
+abbrev pub FreshPrints : Type 0
+FreshPrints =
+    checkText (record { reserved = 0; shift = 4; width = 32; sections = 1; provided = 16 }) 0 (λ s. false)
+    ≡ bytesOf "tag 32 run 16 sections 1 provided 16\nreplay 0\nbad 0\n"
+
+-- ---- what a call did with the loan that takes the text
+
+-- it put the bytes x at index `at` of the loan t, answered the index behind them, and left the loan t′
+pub record Puts (t : List ℕ) (at : ℕ) (x : List ℕ) (behind : ℕ) (t′ : List ℕ) : Type 0 where
+  pub text : t′ ≡ patch t at x
+  pub end : behind ≡ at + length x
+
+-- it put the report o at the start of the loan t, answered how long it is, and left the loan t′ and the image v′
+pub record Reports (o : Report) (t : List ℕ) (n : ℕ) (t′ v′ : List ℕ) : Type 0 where
+  pub text : Puts t 0 (o .text) n t′
+  pub image : v′ ≡ o .image
