@@ -1,7 +1,6 @@
 // The hash tree's calls: document 01, "Hash tree". What each leaves is defined in specs/HashTree.antt.
 use crate::WRONG_LENGTH;
 use buffers::DONE;
-use buffers::digest_state;
 use tree::Answer;
 ghost use mathlib.Core.Path.{_≡_};
 ghost use lib.ListN.{length};

@@ -1,12 +1,12 @@
 // The digest's calls: document 01, "Digest". What each leaves is defined in specs/Sha256.antt.
 //
-// A state lies between two calls in a buffer of the caller's, which crate buffers lays out. Any bytes of its length are a state.
+// A state lies between two calls in a buffer of the caller's, which crate digest_state lays out. Any bytes of its length are a state.
 use crate::WRONG_LENGTH;
 use buffers::DONE;
-use buffers::digest_state::DIGEST_SIZE;
-use buffers::digest_state::decode;
-use buffers::digest_state::encode;
-use buffers::digest_state::put_digest;
+use digest_state::DIGEST_SIZE;
+use digest_state::decode;
+use digest_state::encode;
+use digest_state::put_digest;
 ghost use mathlib.Core.Path.{_≡_};
 ghost use Rattle.digest_calls.specs.Sha256.{sha256Call, newCall, updateCall, finishCall};
 

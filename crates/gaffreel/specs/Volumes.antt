@@ -30,9 +30,9 @@ use Rattle.model.specs.Query.{queryOf}
 use Rattle.model.specs.Store.{afterEffect}
 use Rattle.model.specs.Step.{StepResult, stepOf}
 use Rattle.model.specs.Advance.{AdvanceResult, advanceOf}
-use Rattle.buffers.specs.declared.replies.Reply.{Reply}
-use Rattle.buffers.specs.VolumeState.{stateSize, layoutSize, encodeOf, decodeOf, encodesState}
-use Rattle.buffers.specs.Replies.{answerSize, answerBytesOf, refusal, formatReply, writeReply, flushReply, readReply, openReply, queryReply, stepReply, openedBytes, heldBytes}
+use Rattle.replies.specs.declared.Reply.{Reply}
+use Rattle.volume_state.specs.VolumeState.{stateSize, layoutSize, encodeOf, decodeOf, encodesState}
+use Rattle.replies.specs.Replies.{answerSize, answerBytesOf, refusal, formatReply, writeReply, flushReply, readReply, openReply, queryReply, stepReply, openedBytes, heldBytes}
 use Rattle.digest_calls.specs.Outcome.{wrongLength, differs}
 
 -- ---- format

@@ -1,23 +1,23 @@
 // The volume's calls: document 01, "Working a volume". What each leaves is defined in specs/Volumes.antt.
 //
-// A state lies between two calls in a buffer of the caller's, and what a call says goes to an answer's buffer; crate buffers lays out both.
-use buffers::replies::flush_reply;
-use buffers::replies::format_reply;
-use buffers::replies::open_reply;
-use buffers::replies::put_held;
-use buffers::replies::put_malformed;
-use buffers::replies::put_opened;
-use buffers::replies::put_reply;
-use buffers::replies::query_reply;
-use buffers::replies::read_reply;
-use buffers::replies::step_reply;
-use buffers::replies::write_reply;
-use buffers::volume_state::STATE_SIZE;
-use buffers::volume_state::decode;
-use buffers::volume_state::encode;
-use buffers::volume_state::encodes_state;
+// A state lies between two calls in a buffer of the caller's, and what a call says goes to an answer's buffer; crates volume_state and replies lay them out.
 use digest_calls::WRONG_LENGTH;
 use model::Layout;
+use replies::flush_reply;
+use replies::format_reply;
+use replies::open_reply;
+use replies::put_held;
+use replies::put_malformed;
+use replies::put_opened;
+use replies::put_reply;
+use replies::query_reply;
+use replies::read_reply;
+use replies::step_reply;
+use replies::write_reply;
+use volume_state::STATE_SIZE;
+use volume_state::decode;
+use volume_state::encode;
+use volume_state::encodes_state;
 ghost use mathlib.Core.Path.{_≡_};
 ghost use Rattle.octets.specs.Choice.{pick};
 ghost use Rattle.gaffreel.specs.Volumes.{formatCall, writeCall, flushCall, readCall, openCall, queryCall, stepCall, advanceCall};

@@ -18,7 +18,7 @@ use Rattle.tree.specs.Places.{digestSize, mostBlocks, treeLength}
 use Rattle.tree.specs.Answer.{Refusal, numberOf, valuesOf, refusalOf}
 use Rattle.tree.specs.Build.{BuildOutcome, outcomeOf, buildRows, builtOf, buildOf}
 use Rattle.tree.specs.Verify.{verifyOf}
-use Rattle.buffers.specs.Replies.{done}
+use Rattle.buffers.specs.Done.{done}
 use Rattle.digest_calls.specs.Outcome.{wrongLength, refused}
 use Rattle.digest_calls.specs.HashTree.{lengthCall, refusedBuild, buildCall, levelSize, levelBufferOf, verifyCall}
 

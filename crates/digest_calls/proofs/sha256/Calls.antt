@@ -8,9 +8,9 @@ use Rattle.digest.specs.declared.State.{State}
 use Rattle.digest.specs.declared.Updated.{Updated}
 use Rattle.digest.specs.declared.Closed.{Closed}
 use Rattle.digest.specs.Pieces.{numberOf, freshOf, updateOf, finishOf, digestOf}
-use Rattle.buffers.specs.Replies.{done}
+use Rattle.buffers.specs.Done.{done}
 use Rattle.digest_calls.specs.Outcome.{wrongLength, carriedOut, refused}
-use Rattle.buffers.specs.DigestState.{digestSize, stateSize, decodeOf, encodeOf}
+use Rattle.digest_state.specs.DigestState.{digestSize, stateSize, decodeOf, encodeOf}
 use Rattle.digest_calls.specs.Sha256.{sha256Call, newCall, updateCall, finishCall}
 
 -- ---- whole

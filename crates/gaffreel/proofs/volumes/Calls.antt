@@ -31,10 +31,10 @@ use Rattle.model.specs.Step.{StepResult, stepOf}
 use Rattle.model.specs.Advance.{advanceOf}
 use Rattle.batch.specs.Results.{written}
 use Rattle.volume.specs.Results.{advanced, Leaves}
-use Rattle.buffers.specs.declared.replies.Reply.{Reply}
+use Rattle.replies.specs.declared.Reply.{Reply}
 use Rattle.digest_calls.specs.Outcome.{wrongLength}
-use Rattle.buffers.specs.VolumeState.{decodeOf, encodeOf, encodesState, stateSize, layoutSize}
-use Rattle.buffers.specs.Replies.{answerSize, answerBytesOf, refusal, formatReply, writeReply, flushReply, readReply, openReply, queryReply, openedBytes, heldBytes, stepReply}
+use Rattle.volume_state.specs.VolumeState.{decodeOf, encodeOf, encodesState, stateSize, layoutSize}
+use Rattle.replies.specs.Replies.{answerSize, answerBytesOf, refusal, formatReply, writeReply, flushReply, readReply, openReply, queryReply, openedBytes, heldBytes, stepReply}
 use Rattle.gaffreel.specs.Volumes.{formatCall, writeCall, flushCall, readCall, openCall, queryCall, stepCall, advanceReply, advanceCall}
 
 -- the number answered and the answer's buffer hold the reply r

@@ -27,10 +27,11 @@ use Rattle.model.specs.Query.{queryBy, queryWith}
 use Rattle.model.specs.Store.{afterEffect, Place, storeOf}
 use Rattle.model.specs.Step.{placeAt, stepRows, commitStep, homeStep, recoverPlace, phaseStep, stepBy, stepOf}
 use Rattle.model.proofs.Replays.{Which, isTrue, isFalse, which}
-use Rattle.buffers.specs.VolumeState.{encodeOf, decodeOf, encodesState, stateSize, layoutSize}
-use Rattle.buffers.specs.Replies.{done, answerSize, formatReply, writeReply, flushReply, readReply, openReply, queryReply, stepReply, openedBytes, heldBytes}
+use Rattle.volume_state.specs.VolumeState.{encodeOf, decodeOf, encodesState, stateSize, layoutSize}
+use Rattle.buffers.specs.Done.{done}
+use Rattle.replies.specs.Replies.{answerSize, formatReply, writeReply, flushReply, readReply, openReply, queryReply, stepReply, openedBytes, heldBytes}
 use Rattle.gaffreel.specs.Volumes.{formatCall, writeCall, flushCall, readCall, openCall, queryCall, stepCall}
-use Rattle.buffers.proofs.VolumeStateBytes.{encode-decode}
+use Rattle.volume_state.proofs.VolumeStateBytes.{encode-decode}
 
 -- ---- format
 

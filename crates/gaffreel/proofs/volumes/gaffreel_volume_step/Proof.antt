@@ -1,6 +1,6 @@
 use mathlib.Core.Path.{sym, _∙_}
 use borrow.Author.Tests.{not-true, not-false}
-use Rattle.buffers.proofs.VolumeStateBytes.{encodes-length}
+use Rattle.volume_state.proofs.VolumeStateBytes.{encodes-length}
 use Rattle.gaffreel.proofs.volumes.Calls.{replied, step-wrong, step-malformed, step-made}
 use borrow.Author.Needs.{needs}
 use Rattle.gaffreel.proofs.volumes.gaffreel_volume_step.Statement.{statement}

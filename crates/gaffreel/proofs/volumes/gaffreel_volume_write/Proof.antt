@@ -1,6 +1,6 @@
 use mathlib.Core.Path.{sym, _∙_}
 use borrow.Author.Tests.{not-true, not-false}
-use Rattle.buffers.proofs.VolumeStateBytes.{encodes-length}
+use Rattle.volume_state.proofs.VolumeStateBytes.{encodes-length}
 use Rattle.gaffreel.proofs.volumes.Calls.{replied, write-wrong, write-malformed, write-made}
 use borrow.Author.Needs.{needs}
 use Rattle.gaffreel.proofs.volumes.gaffreel_volume_write.Statement.{statement}
