@@ -1,11 +1,14 @@
-// The hash tree's calls: document 01, "Hash tree". What each leaves is defined in specs/HashTree.antt.
-use crate::WRONG_LENGTH;
+// The hash tree on buffers, as crate gaffreel exports it: document 01, "Hash tree". What each call leaves is defined in specs/HashTree.antt.
+//
+// A call takes numbers and byte slices, and one that can refuse answers a number, as those of crate digest_calls do. After a
+// refusal every buffer is as it was, but for one that receives what the refusal also returns.
 use buffers::DONE;
+use digest_calls::WRONG_LENGTH;
 use tree::Answer;
 ghost use mathlib.Core.Path.{_≡_};
 ghost use lib.ListN.{length};
 ghost use Rattle.tree.specs.Answer.{valuesOf};
-ghost use Rattle.digest_calls.specs.HashTree.{levelSize, levelBufferOf, lengthCall, buildCall, verifyCall};
+ghost use Rattle.tree_calls.specs.HashTree.{levelSize, levelBufferOf, lengthCall, buildCall, verifyCall};
 
 // The length of a level's buffer, in bytes.
 const LEVEL_SIZE: usize = 4;

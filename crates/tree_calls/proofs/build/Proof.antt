@@ -1,7 +1,7 @@
 use borrow.Author.Needs.{needs}
-use Rattle.digest_calls.proofs.hash_tree.Calls.{build-wrong, build-refused, build-done}
-use Rattle.digest_calls.proofs.hash_tree.build.Statement.{statement}
-use Rattle.digest_calls.proofs.hash_tree.build.Tie as tie
+use Rattle.tree_calls.proofs.Calls.{build-wrong, build-refused, build-done}
+use Rattle.tree_calls.proofs.build.Statement.{statement}
+use Rattle.tree_calls.proofs.build.Tie as tie
 
 returns : tie.Need-returns
 returns c = build-wrong _ _ _ _ _ (c .if1 .taken)

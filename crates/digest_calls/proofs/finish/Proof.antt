@@ -1,7 +1,7 @@
 use borrow.Author.Needs.{needs}
-use Rattle.digest_calls.proofs.sha256.Calls.{finish-wrong-state, finish-wrong-digest, finish-refused, finish-done}
-use Rattle.digest_calls.proofs.sha256.finish.Statement.{statement}
-use Rattle.digest_calls.proofs.sha256.finish.Tie as tie
+use Rattle.digest_calls.proofs.Calls.{finish-wrong-state, finish-wrong-digest, finish-refused, finish-done}
+use Rattle.digest_calls.proofs.finish.Statement.{statement}
+use Rattle.digest_calls.proofs.finish.Tie as tie
 
 returns : tie.Need-returns
 returns c = finish-wrong-state (c .before .before .before .args .state .now) (c .before .before .before .args .digest .now) (c .if1 .taken)

@@ -1,7 +1,7 @@
 use borrow.Author.Needs.{needs}
-use Rattle.digest_calls.proofs.sha256.Calls.{sha256-wrong, sha256-refused, sha256-done}
-use Rattle.digest_calls.proofs.sha256.whole.Statement.{statement}
-use Rattle.digest_calls.proofs.sha256.whole.Tie as tie
+use Rattle.digest_calls.proofs.Calls.{sha256-wrong, sha256-refused, sha256-done}
+use Rattle.digest_calls.proofs.whole.Statement.{statement}
+use Rattle.digest_calls.proofs.whole.Tie as tie
 
 returns : tie.Need-returns
 returns c = sha256-wrong (c .before .before .before .args .message .now) (c .before .before .before .args .digest .now) (c .if1 .taken)

@@ -6,7 +6,7 @@ use lib.IntN.{ℤ, pos, negsuc}
 use borrow.Author.Tests.{lt-ltb, le-ltb}
 use Rattle.octets.specs.Numbers.{le, value}
 use Rattle.octets.proofs.Numbers.{value-le}
-use Rattle.digest_calls.specs.HashTree.{levelSize, levelBytesOf, levelIn, IsLevel}
+use Rattle.tree_calls.specs.HashTree.{levelSize, levelBytesOf, levelIn, IsLevel}
 
 pub level-back : (v : ℤ) → IsLevel v → levelIn (levelBytesOf v) ≡ v
 level-back (pos n) h =

@@ -1,7 +1,7 @@
 use borrow.Author.Needs.{needs}
-use Rattle.digest_calls.proofs.hash_tree.Calls.{data-level, hash-level}
-use Rattle.digest_calls.proofs.hash_tree.put_level.Statement.{statement}
-use Rattle.digest_calls.proofs.hash_tree.put_level.Tie as tie
+use Rattle.tree_calls.proofs.Calls.{data-level, hash-level}
+use Rattle.tree_calls.proofs.put_level.Statement.{statement}
+use Rattle.tree_calls.proofs.put_level.Tie as tie
 
 returns-4 : tie.Need-returns-4
 returns-4 c = data-level _ _ _ (c .before .before .before .before .before .before .before .pre) (c .before .before .before .before .enum-told4 .given .1) (c .before .before .put-number .ensures)

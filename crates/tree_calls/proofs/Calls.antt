@@ -19,8 +19,8 @@ use Rattle.tree.specs.Answer.{Refusal, numberOf, valuesOf, refusalOf}
 use Rattle.tree.specs.Build.{BuildOutcome, outcomeOf, buildRows, builtOf, buildOf}
 use Rattle.tree.specs.Verify.{verifyOf}
 use Rattle.buffers.specs.Done.{done}
 use Rattle.digest_calls.specs.Outcome.{wrongLength, refused}
-use Rattle.digest_calls.specs.HashTree.{lengthCall, refusedBuild, buildCall, levelSize, levelBufferOf, verifyCall}
+use Rattle.tree_calls.specs.HashTree.{lengthCall, refusedBuild, buildCall, levelSize, levelBufferOf, verifyCall}
 
 -- ---- tree_length
 

@@ -1,7 +1,7 @@
 use borrow.Author.Needs.{needs}
-use Rattle.digest_calls.proofs.sha256.Calls.{new-wrong, new-done}
-use Rattle.digest_calls.proofs.sha256.begin.Statement.{statement}
-use Rattle.digest_calls.proofs.sha256.begin.Tie as tie
+use Rattle.digest_calls.proofs.Calls.{new-wrong, new-done}
+use Rattle.digest_calls.proofs.begin.Statement.{statement}
+use Rattle.digest_calls.proofs.begin.Tie as tie
 
 returns : tie.Need-returns
 returns c = new-wrong (c .before .before .args .state .now) (c .if1 .taken)

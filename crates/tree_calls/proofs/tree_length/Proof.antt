@@ -1,7 +1,7 @@
 use borrow.Author.Needs.{needs}
-use Rattle.digest_calls.proofs.hash_tree.Calls.{length-none, length-many, length-of}
-use Rattle.digest_calls.proofs.hash_tree.tree_length.Statement.{statement}
-use Rattle.digest_calls.proofs.hash_tree.tree_length.Tie as tie
+use Rattle.tree_calls.proofs.Calls.{length-none, length-many, length-of}
+use Rattle.tree_calls.proofs.tree_length.Statement.{statement}
+use Rattle.tree_calls.proofs.tree_length.Tie as tie
 
 returns : tie.Need-returns
 returns c = length-none _ (c .if1 .taken)

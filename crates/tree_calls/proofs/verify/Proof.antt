@@ -1,7 +1,7 @@
 use borrow.Author.Needs.{needs}
-use Rattle.digest_calls.proofs.hash_tree.Calls.{verify-wrong, verify-answers}
-use Rattle.digest_calls.proofs.hash_tree.verify.Statement.{statement}
-use Rattle.digest_calls.proofs.hash_tree.verify.Tie as tie
+use Rattle.tree_calls.proofs.Calls.{verify-wrong, verify-answers}
+use Rattle.tree_calls.proofs.verify.Statement.{statement}
+use Rattle.tree_calls.proofs.verify.Tie as tie
 
 returns : tie.Need-returns
 returns c = verify-wrong _ _ _ _ _ _ _ (c .if1 .taken)

@@ -1,7 +1,7 @@
 use borrow.Author.Needs.{needs}
-use Rattle.digest_calls.proofs.sha256.Calls.{update-wrong, update-refused, update-done}
-use Rattle.digest_calls.proofs.sha256.update.Statement.{statement}
-use Rattle.digest_calls.proofs.sha256.update.Tie as tie
+use Rattle.digest_calls.proofs.Calls.{update-wrong, update-refused, update-done}
+use Rattle.digest_calls.proofs.update.Statement.{statement}
+use Rattle.digest_calls.proofs.update.Tie as tie
 
 returns : tie.Need-returns
 returns c = update-wrong (c .before .before .before .args .state .now) (c .before .before .before .args .piece .now) (c .if1 .taken)
