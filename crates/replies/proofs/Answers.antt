@@ -1,7 +1,7 @@
 -- The code over an answer's buffer, and the replies, an arm at a time.
 use Prim.Native.Nat.{ℕ}
 use mathlib.Core.List.{List, [], _∷_}
-use mathlib.Core.Path.{_≡_, sym, _∙_}
+use mathlib.Core.Path.{_≡_, sym, ap, _∙_}
 use lib.ListN.{length, getD}
 use Rattle.octets.specs.Parts.{patch}
 use Rattle.octets.proofs.Parts.{patch-all}
@@ -36,3 +36,14 @@ module _ (a : StepAnswer) (n k : ℕ) (x : Reply) where
 
   pub refused-reply : (r : Refusal) (y : Reply) → a ≡ Refused r → y ≡ refusal r → x ≡ withCounts y n k → x ≡ stepReply a n k
   refused-reply r y ea ey ex = rw (ex, ea, ey)
+
+-- ---- a reply put, as the calls cite it
+
+-- the number answered and the answer's buffer hold the reply r
+pub record Replied (r : Reply) (n : ℕ) (a : List ℕ) : Type 0 where
+  pub number : n ≡ r .number
+  pub answer : a ≡ answerBytesOf r
+
+-- a reply put, of an answer's reply
+pub replied : {r x : Reply} {n : ℕ} {a : List ℕ} → x ≡ r → (n ≡ x .number) × (a ≡ answerBytesOf x) → Replied r n a
+replied e p = record { number = p .0 ∙ ap (λ (z : Reply). z .number) e; answer = p .1 ∙ ap answerBytesOf e }

@@ -1,2 +1,2 @@
--- What the proofs of the functions cite.
-mod Answers
+-- What the proofs of the functions, and of the calls, cite.
+pub mod Answers

@@ -2,7 +2,8 @@
 //
 // An answer is five numbers of 8 bytes each, little-endian.
 //
-// These are functions for crate gaffreel. Its calls test a buffer's length once; so a function here may have a `requires`, and every caller shows it.
+// These are functions for the volume's calls on buffers: crates setup_calls, batch_calls and step_calls. They test a buffer's length once; so a function
+// here may have a `requires`, and every caller shows it.
 use buffers::DONE;
 use buffers::put_five;
 use model::Done;

@@ -2,8 +2,8 @@
 //
 // A state is ten numbers of 8 bytes each, little-endian: the layout's five, which phase, the two of its place, the count, the id.
 //
-// These are functions for crates replies and gaffreel. The calls test a buffer's length once; so a function here may have a `requires`, and every
-// caller shows it.
+// These are functions for crate replies and the volume's calls on buffers. The calls test a buffer's length once; so a function here may have a
+// `requires`, and every caller shows it.
 use buffers::NUMBER_SIZE;
 use buffers::put_five;
 use model::Layout;
