@@ -1,7 +1,2 @@
--- Theorems: VolumeStateBytes and DigestStateBytes, a state and its bytes. The others are what the proofs of the functions cite.
+-- Numbers and their bytes: what the crates above, and the proof of put_five, cite.
 pub mod NumberBytes
-pub mod DigestStateBytes
-pub mod DigestStates
-pub mod VolumeStateBytes
-pub mod VolumeStates
-pub mod Answers

@@ -1,5 +1,3 @@
--- How numbers, states and replies lie in buffers.
+-- How numbers lie in buffers, and the number of a call that was carried out.
 pub mod Numbers
-pub mod DigestState
-pub mod VolumeState
-pub mod Replies
+pub mod Done

@@ -1,4 +1,3 @@
--- What the calls leave: what they have in common, then the calls of each part.
+-- What the calls of SHA-256 leave, after what the calls of every part have in common.
 pub mod Outcome
 pub mod Sha256
-pub mod HashTree

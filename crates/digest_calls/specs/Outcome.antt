@@ -8,7 +8,7 @@ use Prim.Native.Nat.{ℕ}
 use mathlib.Core.Bool.{Bool, not}
 use mathlib.Core.List.{List}
 use lib.Dec.{eqb}
-use Rattle.buffers.specs.Replies.{done}
+use Rattle.buffers.specs.Done.{done}
 
 pub record Outcome : Type 0 where
   -- the number that the call answers

@@ -12,8 +12,8 @@ use lib.ListN.{length}
 use Rattle.octets.specs.Choice.{firstMet}
 use Rattle.digest.specs.declared.Answer.{Answer}
 use Rattle.digest.specs.Pieces.{numberOf, freshOf, updateOf, finishOf, digestOf}
-use Rattle.buffers.specs.DigestState.{digestSize, stateSize, decodeOf, encodeOf}
-use Rattle.buffers.specs.Replies.{done}
+use Rattle.digest_state.specs.DigestState.{digestSize, stateSize, decodeOf, encodeOf}
+use Rattle.buffers.specs.Done.{done}
 use Rattle.digest_calls.specs.Outcome.{Outcome, wrongLength, carriedOut, refused, differs}
 
 abbrev pub refuses : Answer → Bool

@@ -1,10 +1,88 @@
-// SHA-256 and the hash tree on buffers: what crate gaffreel exports of them.
+// SHA-256 on buffers, as crate gaffreel exports it: document 01, "Digest". What each call leaves is defined in specs/Sha256.antt.
 //
 // A call takes numbers and byte slices, and one that can refuse answers a number: 0 where it was carried out, else that of
-// a refusal in document 01, "Refusal numbers". After a refusal every buffer is as it was, but for one that receives what the
-// refusal also returns.
-pub mod hash_tree;
-pub mod sha256;
+// a refusal in document 01, "Refusal numbers". After a refusal every buffer is as it was.
+//
+// A state lies between two calls in a buffer of the caller's, which crate digest_state lays out. Any bytes of its length are a state.
+use buffers::DONE;
+use digest_state::DIGEST_SIZE;
+use digest_state::decode;
+use digest_state::encode;
+use digest_state::put_digest;
+ghost use mathlib.Core.Path.{_≡_};
+ghost use Rattle.digest_calls.specs.Sha256.{sha256Call, newCall, updateCall, finishCall};
 
-// The number where a buffer has a wrong length.
+// The number where a buffer has a wrong length, in the calls of every part.
 pub const WRONG_LENGTH: u32 = 1;
+
+// The length of a state, in bytes.
+const STATE_SIZE: usize = 104;
+
+// The digest of a message that is lent whole. Refused where the digest's buffer has a wrong length, or the message is past the limit.
+pub fn whole(message: &[u8], digest: &mut [u8]) -> u32
+    ensures { λ r. ⌜ record { number = r; buffer = now (digest .exit) } ≡ sha256Call (now (message .entry)) (now (digest .entry)) ⌝ }
+{
+    if digest.len() != DIGEST_SIZE {
+        return WRONG_LENGTH;
+    }
+    let closed = digest::sha256(message);
+    let answer = closed.answer;
+    let number = digest::number(answer);
+    if number != DONE {
+        return number;
+    }
+    let bytes = closed.digest;
+    put_digest(bytes, digest);
+    DONE
+}
+
+// The state before any piece. Refused where its buffer has a wrong length.
+pub fn begin(state: &mut [u8]) -> u32
+    ensures { λ r. ⌜ record { number = r; buffer = now (state .exit) } ≡ newCall (now (state .entry)) ⌝ }
+{
+    if state.len() != STATE_SIZE {
+        return WRONG_LENGTH;
+    }
+    encode(digest::fresh(), state);
+    DONE
+}
+
+// A piece added to the state. Refused where its buffer has a wrong length, or the total would pass the limit.
+pub fn update(state: &mut [u8], piece: &[u8]) -> u32
+    ensures { λ r. ⌜ record { number = r; buffer = now (state .exit) } ≡ updateCall (now (state .entry)) (now (piece .entry)) ⌝ }
+{
+    if state.len() != STATE_SIZE {
+        return WRONG_LENGTH;
+    }
+    let updated = digest::update(decode(state), piece);
+    let answer = updated.answer;
+    let number = digest::number(answer);
+    if number != DONE {
+        return number;
+    }
+    let next = updated.state;
+    encode(next, state);
+    DONE
+}
+
+// The digest of all the pieces; the state stays, and may take further ones. Refused where a buffer has a wrong length, or the state is
+// past the limit.
+pub fn finish(state: &[u8], digest: &mut [u8]) -> u32
+    ensures { λ r. ⌜ record { number = r; buffer = now (digest .exit) } ≡ finishCall (now (state .entry)) (now (digest .entry)) ⌝ }
+{
+    if state.len() != STATE_SIZE {
+        return WRONG_LENGTH;
+    }
+    if digest.len() != DIGEST_SIZE {
+        return WRONG_LENGTH;
+    }
+    let closed = digest::finish(decode(state));
+    let answer = closed.answer;
+    let number = digest::number(answer);
+    if number != DONE {
+        return number;
+    }
+    let bytes = closed.digest;
+    put_digest(bytes, digest);
+    DONE
+}

@@ -1,13 +1,13 @@
-// The calls of the hash tree (dm-verity, format 1), by crate digest_calls, which says what each leaves.
+// The calls of the hash tree (dm-verity, format 1), by crate tree_calls, which says what each leaves.
 ghost use mathlib.Core.Path.{_≡_};
-ghost use Rattle.digest_calls.specs.HashTree.{lengthCall, buildCall, verifyCall};
+ghost use Rattle.tree_calls.specs.HashTree.{lengthCall, buildCall, verifyCall};
 
 // The length in bytes of the tree over so many data blocks; 0 where there cannot be so many.
 #[no_mangle]
 pub extern "C" fn gaffreel_tree_length(count: usize) -> usize
     ensures { λ r. ⌜ r ≡ lengthCall count ⌝ }
 {
-    digest_calls::hash_tree::tree_length(count)
+    tree_calls::tree_length(count)
 }
 
 // The tree over an image of so many data blocks, and its root digest.
@@ -21,7 +21,7 @@ pub extern "C" fn gaffreel_tree_build(
 ) -> u32
     ensures { λ r. ⌜ record { number = r; tree = now (tree .exit); root = now (root .exit) } ≡ buildCall count (now (salt .entry)) (now (image .entry)) (now (tree .entry)) (now (root .entry)) ⌝ }
 {
-    digest_calls::hash_tree::build(count, salt, image, tree, root)
+    tree_calls::build(count, salt, image, tree, root)
 }
 
 // Whether the data block with this index verifies.
@@ -37,5 +37,5 @@ pub extern "C" fn gaffreel_tree_verify(
 ) -> u32
     ensures { λ r. ⌜ record { number = r; buffer = now (level .exit) } ≡ verifyCall (now (block .entry)) index (now (tree .entry)) count (now (salt .entry)) (now (root .entry)) (now (level .entry)) ⌝ }
 {
-    digest_calls::hash_tree::verify(block, index, tree, count, salt, root, level)
+    tree_calls::verify(block, index, tree, count, salt, root, level)
 }

@@ -7,7 +7,7 @@ ghost use Rattle.digest_calls.specs.Sha256.{sha256Call, newCall, updateCall, fi
 pub extern "C" fn gaffreel_sha256(message: &[u8], digest: &mut [u8]) -> u32
     ensures { λ r. ⌜ record { number = r; buffer = now (digest .exit) } ≡ sha256Call (now (message .entry)) (now (digest .entry)) ⌝ }
 {
-    digest_calls::sha256::whole(message, digest)
+    digest_calls::whole(message, digest)
 }
 
 // The state before any piece.
@@ -15,7 +15,7 @@ pub extern "C" fn gaffreel_sha256(message: &[u8], digest: &mut [u8]) -> u32
 pub extern "C" fn gaffreel_sha256_new(state: &mut [u8]) -> u32
     ensures { λ r. ⌜ record { number = r; buffer = now (state .exit) } ≡ newCall (now (state .entry)) ⌝ }
 {
-    digest_calls::sha256::begin(state)
+    digest_calls::begin(state)
 }
 
 // A piece added to the state.
@@ -23,7 +23,7 @@ pub extern "C" fn gaffreel_sha256_new(state: &mut [u8]) -> u32
 pub extern "C" fn gaffreel_sha256_update(state: &mut [u8], piece: &[u8]) -> u32
     ensures { λ r. ⌜ record { number = r; buffer = now (state .exit) } ≡ updateCall (now (state .entry)) (now (piece .entry)) ⌝ }
 {
-    digest_calls::sha256::update(state, piece)
+    digest_calls::update(state, piece)
 }
 
 // The digest of all the pieces.
@@ -31,5 +31,5 @@ pub extern "C" fn gaffreel_sha256_update(state: &mut [u8], piece: &[u8]) -> u32
 pub extern "C" fn gaffreel_sha256_finish(state: &[u8], digest: &mut [u8]) -> u32
     ensures { λ r. ⌜ record { number = r; buffer = now (digest .exit) } ≡ finishCall (now (state .entry)) (now (digest .entry)) ⌝ }
 {
-    digest_calls::sha256::finish(state, digest)
+    digest_calls::finish(state, digest)
 }

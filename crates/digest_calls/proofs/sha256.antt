@@ -1,2 +1,0 @@
--- The digest's part: what the proofs of its functions cite.
-mod Calls

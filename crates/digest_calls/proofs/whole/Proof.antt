@@ -1,0 +1,25 @@
+use borrow.Author.Needs.{needs}
+use Rattle.digest_calls.proofs.Calls.{sha256-wrong, sha256-refused, sha256-done}
+use Rattle.digest_calls.proofs.whole.Statement.{statement}
+use Rattle.digest_calls.proofs.whole.Tie as tie
+
+returns : tie.Need-returns
+returns c = sha256-wrong (c .before .before .before .args .message .now) (c .before .before .before .args .digest .now) (c .if1 .taken)
+
+returns-2 : tie.Need-returns-2
+returns-2 c = sha256-refused (c .before .before .before .before .before .before .args .message .now) (c .before .before .before .before .before .before .args .digest .now) (c .before .before .before .if1 .left) (c .before .before .sha256 .ensures) (c .before .number .ensures) (c .if2 .taken)
+
+returns-3 : tie.Need-returns-3
+returns-3 c = sha256-done (c .before .before .before .before .before .before .before .before .before .before .before .args .message .now) (c .before .before .before .before .before .before .before .before .before .before .before .args .digest .now) (c .before .before .before .before .before .before .before .before .if1 .left) (c .before .before .before .before .before .before .before .sha256 .ensures) (c .before .before .before .before .before .before .number .ensures) (c .before .before .before .before .before .if2 .left) (c .before .before .put-digest .ensures)
+
+pub whole-spec : {M : Type 1} → statement M
+whole-spec =
+    tie.close
+    (tie.spec
+    returns
+    (λ c κs. search needs)
+    (λ c κs. search needs)
+    returns-2
+    (λ c κs. search needs)
+    (λ c. search needs)
+    returns-3)

@@ -1,0 +1,2 @@
+-- How a digest and its state lie in buffers.
+pub mod DigestState

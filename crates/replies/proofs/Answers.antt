@@ -1,0 +1,49 @@
+-- The code over an answer's buffer, and the replies, an arm at a time.
+use Prim.Native.Nat.{ℕ}
+use mathlib.Core.List.{List, [], _∷_}
+use mathlib.Core.Path.{_≡_, sym, ap, _∙_}
+use lib.ListN.{length, getD}
+use Rattle.octets.specs.Parts.{patch}
+use Rattle.octets.proofs.Parts.{patch-all}
+use Rattle.model.specs.declared.Done.{Done}
+use Rattle.model.specs.declared.Refusal.{Refusal}
+use Rattle.model.specs.declared.Says.{Says}
+use Rattle.model.specs.declared.StepAnswer.{StepAnswer}
+use Rattle.model.specs.declared.StepAnswer.the-variants.{Stepped, Refused}
+use Rattle.model.specs.Refusal.{numberOf, valuesOf}
+use Rattle.replies.specs.declared.Reply.{Reply}
+use Rattle.buffers.specs.Numbers.{numberBytes}
+use Rattle.replies.specs.Replies.{answerSize, answerBytesOf, carriedOut, refusal, withCounts, storedOf, sectorOf, saysOf, stepReply}
+use Rattle.buffers.proofs.NumberBytes.{length-number-bytes}
+
+pub answered : (r : Reply) (b d : List ℕ) → length b ≡ answerSize → d ≡ patch b 0 (numberBytes 8 (r .first ∷ r .second ∷ r .third ∷ r .fourth ∷ r .fifth ∷ []))
+    → d ≡ answerBytesOf r
+unfolding answerBytesOf
+answered r b d size e =
+    let five : List ℕ = r .first ∷ r .second ∷ r .third ∷ r .fourth ∷ r .fifth ∷ [] in
+    e ∙ patch-all b (numberBytes 8 five) (length-number-bytes 8 five ∙ sym size)
+
+-- the refusal r, told apart as q, with the values of q
+pub refused-as : (r q : Refusal) (n : ℕ) (x : Reply) → n ≡ numberOf r → r ≡ q
+    → x ≡ record { number = n; first = length (valuesOf q); second = getD (valuesOf q) 0 0; third = getD (valuesOf q) 1 0; fourth = 0; fifth = 0 }
+    → x ≡ refusal r
+refused-as r q n x en eq ex = rw (ex, en, eq)
+
+module _ (a : StepAnswer) (n k : ℕ) (x : Reply) where
+  pub stepped-reply : (d : Done) (w : Says) (i j m : ℕ) → a ≡ Stepped d w → i ≡ storedOf d → j ≡ sectorOf d → m ≡ saysOf w → x ≡ carriedOut i j m n k
+      → x ≡ stepReply a n k
+  stepped-reply d w i j m ea ei ej em ex = rw (ex, ea, ei, ej, em)
+
+  pub refused-reply : (r : Refusal) (y : Reply) → a ≡ Refused r → y ≡ refusal r → x ≡ withCounts y n k → x ≡ stepReply a n k
+  refused-reply r y ea ey ex = rw (ex, ea, ey)
+
+-- ---- a reply put, as the calls cite it
+
+-- the number answered and the answer's buffer hold the reply r
+pub record Replied (r : Reply) (n : ℕ) (a : List ℕ) : Type 0 where
+  pub number : n ≡ r .number
+  pub answer : a ≡ answerBytesOf r
+
+-- a reply put, of an answer's reply
+pub replied : {r x : Reply} {n : ℕ} {a : List ℕ} → x ≡ r → (n ≡ x .number) × (a ≡ answerBytesOf x) → Replied r n a
+replied e p = record { number = p .0 ∙ ap (λ (z : Reply). z .number) e; answer = p .1 ∙ ap answerBytesOf e }

@@ -1,0 +1,2 @@
+-- What the calls of a volume say, in buffers.
+pub mod Replies

@@ -1,0 +1,74 @@
+// The calls that store, on buffers, as crate gaffreel exports them: document 01, "Working a volume". What each leaves is defined in specs/Steps.antt.
+//
+// A call takes numbers and byte slices, and answers a number: 0 where it was carried out, else that of a refusal in document 01, "Refusal numbers". What it
+// says besides goes to an answer's buffer. After a refusal every other buffer is as it was; of several
+// steps, those before the refused one stay made.
+//
+// Crates volume_state and replies lay out the buffers.
+use digest_calls::WRONG_LENGTH;
+use replies::put_malformed;
+use replies::put_reply;
+use replies::step_reply;
+use setup_calls::ANSWER_SIZE;
+use volume_state::decode;
+use volume_state::encode;
+use volume_state::encodes_state;
+ghost use mathlib.Core.Path.{_≡_};
+ghost use Rattle.octets.specs.Choice.{pick};
+ghost use Rattle.step_calls.specs.Steps.{stepCall, advanceCall};
+
+// A fact as a number.
+fn flag(b: bool) -> u64
+    ensures { λ r. ⌜ r ≡ pick b 1 0 ⌝ }
+{
+    if b {
+        return 1;
+    }
+    0
+}
+
+// Makes the next store, or none when filling. Refused where the answer's buffer has a wrong length, where the state's buffer holds no
+// state, or as stepping is.
+pub fn step(state: &mut [u8], v: &mut [u8], staging: &mut [u8], answer: &mut [u8]) -> u32
+    ensures { λ r. ⌜ record { number = r; state = now (state .exit); volume = now (v .exit); staging = now (staging .exit); answer = now (answer .exit) } ≡ stepCall (now (state .entry)) (now (v .entry)) (now (staging .entry)) (now (answer .entry)) ⌝ }
+{
+    if answer.len() != ANSWER_SIZE {
+        return WRONG_LENGTH;
+    }
+    if !encodes_state(state) {
+        return put_malformed(answer);
+    }
+    let stepped = volume::step::step(decode(state), v, staging);
+    let next = stepped.state;
+    encode(next, state);
+    let said = stepped.answer;
+    put_reply(step_reply(said, 0, 0), answer)
+}
+
+// Makes so many steps, one after the other. Refused likewise; state, volume and staging are then as the steps before left them, and the answer
+// has their counts.
+pub fn advance(
+    state: &mut [u8],
+    v: &mut [u8],
+    staging: &mut [u8],
+    steps: usize,
+    answer: &mut [u8],
+) -> u32
+    ensures { λ r. ⌜ record { number = r; state = now (state .exit); volume = now (v .exit); staging = now (staging .exit); answer = now (answer .exit) } ≡ advanceCall (now (state .entry)) (now (v .entry)) (now (staging .entry)) steps (now (answer .entry)) ⌝ }
+{
+    if answer.len() != ANSWER_SIZE {
+        return WRONG_LENGTH;
+    }
+    if !encodes_state(state) {
+        return put_malformed(answer);
+    }
+    let advanced = volume::advance::advance(decode(state), v, staging, steps);
+    let next = advanced.state;
+    encode(next, state);
+    let said = advanced.answer;
+    let acknowledged = flag(advanced.acknowledged);
+    put_reply(
+        step_reply(said, advanced.stores as u64, acknowledged),
+        answer,
+    )
+}

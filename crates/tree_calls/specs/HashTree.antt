@@ -1,0 +1,76 @@
+-- The hash tree's calls over buffers. Document 01, "Hash tree".
+--
+-- lengthCall n              : what gaffreel_tree_length answers for the count n, in bytes: the tree's length; 0 where the count is out of range
+-- BuildCall                 : what gaffreel_tree_build leaves: its number, and the contents of the two buffers that it is lent to write to
+-- refusedBuild k t r        : the call was refused with the number k, and the buffers hold t and r as before
+-- buildCall n s d t r       : what it leaves of the count n, salt s, image d, tree's buffer t and root digest's buffer r
+-- levelSize                 : the length of a level's buffer, in bytes
+-- levelBytesOf v            : the level v in such a buffer: little-endian, a negative one in two's complement
+-- levelIn b                 : the level in the bytes b of such a buffer
+-- IsLevel v                 : the level v is one that 32 bits hold
+-- levelBufferOf vs l        : what a level's buffer l holds where a call also returns the values vs: the level among them; l where there is none
+-- verifyCall b i t n s r l  : what gaffreel_tree_verify leaves of the data block b, index i, tree t, count n, salt s, root digest r and level's buffer l
+use Prim.Native.Nat.{ℕ, _-_, _^_, _<_}
+use mathlib.Core.List.{List, [], _∷_}
+use lib.Dec.{eqb, ltb}
+use lib.IntN.{ℤ, pos, negsuc}
+use lib.ListN.{length}
+use Rattle.octets.specs.Numbers.{le, value}
+use Rattle.octets.specs.Choice.{pick, firstMet}
+use Rattle.tree.specs.Places.{digestSize, mostBlocks, treeLength}
+use Rattle.tree.specs.Build.{buildOf}
+use Rattle.tree.specs.Verify.{verifyOf}
+use Rattle.buffers.specs.Done.{done}
+use Rattle.digest_calls.specs.Outcome.{Outcome, wrongLength, refused, differs}
+
+-- ---- length
+
+unfoldable pub lengthCall : ℕ → ℕ
+lengthCall n = firstMet ((eqb n 0, 0) ∷ (ltb mostBlocks n, 0) ∷ []) (treeLength n)
+
+-- ---- build
+
+pub record BuildCall : Type 0 where
+  -- the number that the call answers
+  pub number : ℕ
+  -- the contents of the buffers afterwards
+  pub tree : List ℕ
+  pub root : List ℕ
+
+abbrev pub refusedBuild : ℕ → List ℕ → List ℕ → BuildCall
+refusedBuild k t r = record { number = k; tree = t; root = r }
+
+unfoldable pub buildCall : ℕ → List ℕ → List ℕ → List ℕ → List ℕ → BuildCall
+buildCall n s d t r =
+    firstMet
+    ((differs (length r) digestSize, refusedBuild wrongLength t r) ∷
+    (differs (buildOf n s d t .refused .number) done, refusedBuild (buildOf n s d t .refused .number) t r) ∷
+    [])
+    (record { number = done; tree = buildOf n s d t .tree; root = buildOf n s d t .root })
+
+-- ---- verify
+
+abbrev pub levelSize : ℕ
+levelSize = 4
+
+-- negsuc n is −(n + 1)
+abbrev pub levelBytesOf : ℤ → List ℕ
+levelBytesOf (pos n) = le levelSize n
+levelBytesOf (negsuc n) = le levelSize (2 ^ 32 - 1 - n)
+
+abbrev pub levelIn : List ℕ → ℤ
+levelIn b = pick (ltb (value b) (2 ^ 31)) (pos (value b)) (negsuc (2 ^ 32 - 1 - value b))
+
+abbrev pub IsLevel : ℤ → Type 0
+IsLevel (pos n) = n < 2 ^ 31
+IsLevel (negsuc n) = n < 2 ^ 31
+
+abbrev pub levelBufferOf : List ℤ → List ℕ → List ℕ
+levelBufferOf [] l = l
+levelBufferOf (v ∷ vs) l = levelBytesOf v
+
+unfoldable pub verifyCall : List ℕ → ℕ → List ℕ → ℕ → List ℕ → List ℕ → List ℕ → Outcome
+verifyCall b i t n s r l =
+    firstMet
+    ((differs (length l) levelSize, refused wrongLength l) ∷ [])
+    (record { number = verifyOf b i t n s r .number; buffer = levelBufferOf (verifyOf b i t n s r .values) l })

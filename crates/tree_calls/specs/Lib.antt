@@ -1,0 +1,2 @@
+-- What the calls of the hash tree leave.
+pub mod HashTree

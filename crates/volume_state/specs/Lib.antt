@@ -1,0 +1,2 @@
+-- How a state and a layout lie in buffers.
+pub mod VolumeState
