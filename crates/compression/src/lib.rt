@@ -4,7 +4,7 @@
 // caller shows it.
 mod words;
 
-ghost use Prim.Native.Nat.{_<_, _≤_, _+_, _*_};
+ghost use Prim.Native.Nat.{_<_, _+_, _*_};
 ghost use mathlib.Core.Path.{_≡_};
 ghost use lib.ListN.{length, take};
 ghost use Rattle.compression.specs.Compression.{wordOf, scheduleOf, variablesOf, roundOf, roundsOf, addedOf, compressOf};

@@ -1,5 +1,5 @@
 // Operations on 32-bit words and the functions of SHA-256: FIPS 180-4, sections 3.2 and 4.1.2.
-ghost use Prim.Native.Nat.{_<_, _≤_};
+ghost use Prim.Native.Nat.{_<_};
 ghost use mathlib.Core.Path.{_≡_};
 ghost use Rattle.compression.specs.Words.{_⊞_, rotr, Ch, Maj, Σ₀, Σ₁, σ₀, σ₁};
 

@@ -1,5 +1,5 @@
 -- The padding is that of FIPS 180-4, section 5.1.1: its zero bytes are the fewest that end in whole blocks.
-use Prim.Native.Nat.{ℕ, suc, _+_, _-_, _*_, _%_, _≤_}
+use Prim.Native.Nat.{ℕ, _+_, _-_, _*_, _%_, _≤_}
 use native.Mathlib.Omega.{arith}
 use mathlib.Core.Path.{_≡_}
 use lib.ListN.{length, replicate, length-append, length-replicate}

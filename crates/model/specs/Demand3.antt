@@ -16,7 +16,7 @@ use Rattle.model.specs.declared.State.{State}
 use Rattle.model.specs.Layout.{superblockSize, sectionSize, dataAt}
 use Rattle.model.specs.Tag.{Tag, tagOf, tagAt}
 use Rattle.model.specs.Format.{formatOf}
-use Rattle.model.specs.Read.{ReadResult, readOf}
+use Rattle.model.specs.Read.{readOf}
 use Rattle.model.specs.Ledger.{lastFor, Ledger, ledgerOf}
 use Rattle.model.specs.World.{Event, on, World, volumeIn, begin, after, transcript}
 

@@ -14,7 +14,6 @@ use Prim.Native.Nat.{ℕ}
 use mathlib.Core.Bool.{Bool, true, false}
 use mathlib.Core.List.{List, [], _∷_}
 use lib.Dec.{eqb}
-use Rattle.model.specs.declared.Done.{Done}
 use Rattle.model.specs.declared.FlushAnswer.{FlushAnswer}
 use Rattle.model.specs.declared.FlushAnswer.the-variants as flushing
 use Rattle.model.specs.declared.OpenAnswer.{OpenAnswer}

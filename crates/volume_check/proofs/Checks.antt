@@ -17,12 +17,12 @@ use Rattle.model.specs.declared.Refusal.{Refusal}
 use Rattle.model.specs.declared.State.{State}
 use Rattle.model.specs.Superblock.{superblockAt, layoutIn}
 use Rattle.model.specs.Tag.{tagOf}
-use Rattle.model.specs.Open.{OpenResult, openOf}
-use Rattle.model.specs.Advance.{AdvanceResult, advanceOf}
+use Rattle.model.specs.Open.{openOf}
+use Rattle.model.specs.Advance.{advanceOf}
 use Rattle.model.specs.Read.{ReadResult, readOf}
 use Rattle.model.specs.World.{readTaken}
 use Rattle.volume.specs.Results.{advanced}
-use Rattle.volume_check.specs.Check.{RecoverResult, recovered, recoverBy, recoverFrom, recoverOf, isBad, flagsOf}
+use Rattle.volume_check.specs.Check.{recovered, recoverBy, recoverFrom, recoverOf, isBad, flagsOf}
 use Rattle.volume_check.specs.declared.RecoverAnswer.the-variants as recovering
 
 -- ---- a read of a sector

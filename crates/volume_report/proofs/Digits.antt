@@ -1,15 +1,11 @@
 -- How many digits a number has in decimal.
-use Prim.Native.Nat.{ℕ, zero, suc, _+_, _-_, _*_, _/_, _^_, _≤_, _<_}
-use mathlib.Core.Bool.{Bool, true, false}
-use mathlib.Core.List.{List, []}
+use Prim.Native.Nat.{ℕ, zero, suc, _+_, _-_, _/_, _^_, _≤_, _<_}
 use mathlib.Core.Path.{_≡_, refl, sym, ap, _∙_, subst}
 use native.Mathlib.Omega.{arith}
 use native.Mathlib.Decide.{decLt}
 use lib.ListN.{length, length-append}
 use borrow.Author.Tests.{lt-ltb, le-ltb}
-use lib.Dec.{ltb}
-use Rattle.io.specs.Digits.{glyph, digits, Fewest}
-use Rattle.octets.specs.Choice.{pick}
+use Rattle.io.specs.Digits.{digits, Fewest}
 use Rattle.volume_report.specs.Report.{places, decimal}
 
 pub length-digits : (k n : ℕ) → length (digits 10 k n) ≡ k

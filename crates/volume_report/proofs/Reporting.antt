@@ -1,11 +1,10 @@
 -- The report of an image: what a query says of it, and the text for each answer.
-use Prim.Native.Nat.{ℕ, _+_, _-_, _*_, _/_, _%_, _≤_, _<_}
-use mathlib.Core.Bool.{Bool, true, false}
+use Prim.Native.Nat.{ℕ, _+_, _-_, _*_, _/_, _≤_, _<_}
+use mathlib.Core.Bool.{Bool, true}
 use mathlib.Core.List.{List}
 use mathlib.Core.Path.{_≡_, refl, sym, ap, _∙_, subst}
 use native.Mathlib.Nat.{mul-le-mul-left, div-add-mod'}
 use native.Mathlib.Omega.{arith}
-use lib.Dec.{ltb}
 use lib.ListN.{length, replicate}
 use borrow.Author.Tests.{lt-ltb, le-ltb}
 use Rattle.octets.specs.Choice.{pick, firstMet}
@@ -15,7 +14,7 @@ use Rattle.model.specs.declared.QueryAnswer.the-variants.{Holds, Refused}
 use Rattle.model.specs.declared.Refusal.{Refusal}
 use Rattle.model.specs.declared.Refusal.the-variants.{Malformed}
 use Rattle.model.specs.declared.State.{State}
-use Rattle.model.specs.Layout.{sectionSize, sectionAt, tagArea, runLength, needed, layoutOk}
+use Rattle.model.specs.Layout.{sectionSize, tagArea, runLength, needed, layoutOk}
 use Rattle.model.specs.Superblock.{superblockAt, layoutIn}
 use Rattle.model.specs.State.{Verdict, passed, refused}
 use Rattle.model.specs.Open.{superblockRows}
@@ -25,7 +24,7 @@ use Rattle.volume_open.proofs.Queries.{valid-layout, held-layout, held-valid, h
 use Rattle.volume_check.specs.declared.RecoverAnswer.{RecoverAnswer}
 use Rattle.volume_check.specs.declared.RecoverAnswer.the-variants as recovering
 use Rattle.volume_check.specs.Check.{RecoverResult, recoverOf, isBad}
-use Rattle.volume_report.specs.Report.{Report, refusedLine, checkText, refusedReport, reportBy, reportFrom, reportHeld, reportOf, Puts, Reports}
+use Rattle.volume_report.specs.Report.{refusedLine, checkText, refusedReport, reportBy, reportFrom, reportHeld, reportOf, Puts, Reports}
 
 -- ---- the numbers that a query gives
 

@@ -1,15 +1,14 @@
 -- The digest's promise: all that crates above may use of `sha256`. Its 32 bytes; two pieces are as the one that they make; closing after any pieces
 -- gives the digest of their concatenation.
-use Prim.Native.Nat.{ℕ, _+_, _/_, _*_, _≤_, _<_}
+use Prim.Native.Nat.{ℕ, _+_, _/_, _≤_, _<_}
 use native.Mathlib.Nat.{zero-add}
 use native.Mathlib.Omega.{arith}
-use mathlib.Core.Path.{_≡_, refl, sym, ap, _∙_}
+use mathlib.Core.Path.{_≡_, refl, ap, _∙_}
 use mathlib.Core.List.{List, [], _∷_, _++_, append-assoc, append-nil, flatten}
 use lib.ListN.{length, length-append}
-use lib.Dec.{ltb}
-use borrow.Author.Tests.{le-ltb, lt-ltb, ltb-false}
+use borrow.Author.Tests.{le-ltb, lt-ltb}
 use Rattle.octets.specs.Numbers.{Bytes}
-use Rattle.digest.specs.declared.Answer.the-variants.{Taken, TooLong}
+use Rattle.digest.specs.declared.Answer.the-variants.{Taken}
 use Rattle.digest.specs.declared.State.{State}
 use Rattle.compression.specs.Constants.{initialHash}
 use Rattle.compression.specs.Compression.{hashOf}
