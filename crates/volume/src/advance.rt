@@ -1,6 +1,5 @@
 // Advance: so many steps, one after the other; the model's specs/Advance.antt. A recovery scans the journal once for all of its steps, and goes from
 // each store straight to the next.
-
 use journal::Scan;
 use journal::journal as sections;
 use model::Advanced;
