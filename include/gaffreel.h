@@ -15,8 +15,8 @@
  *     as for any buffer of length 0: an empty message, piece or salt is taken, any other is refused.
  *   - No alignment is asked.
  *
- * The archive is for x86-64 with the System V calling convention, and uses SSE2 registers. It needs three symbols from
- * outside, memcpy, memmove and memset; it has no writable data, and takes no memory but the stack. So it links into a
+ * The archive is for x86-64 with the System V calling convention, and uses SSE2 registers. It needs two symbols from
+ * outside, memcpy and memset; it has no writable data, and takes no memory but the stack. So it links into a
  * firmware without a C library, and calls on different buffers may run at the same time.
  *
  * Examples, each a whole program. SHA-256 of a message that comes in two pieces:
@@ -312,6 +312,22 @@ uint32_t gaffreel_volume_flush(uint8_t *state, size_t state_length, uint8_t *ans
  */
 uint32_t gaffreel_volume_step(uint8_t *state, size_t state_length, uint8_t *volume, size_t volume_length,
                               uint8_t *staging, size_t staging_length, uint8_t *answer, size_t answer_length);
+
+/*
+ * Makes a step as gaffreel_volume_step does, but for its store, which the caller makes: for a volume that can be read in
+ * place and not stored to, as flash. Where the answer says that a sector is stored, `bytes` has what that sector of the
+ * volume is to hold; else `bytes` is as it was. Answer: as of gaffreel_volume_step.
+ *
+ * State and staging are those after the step. So store `bytes` at the sector that the answer names before any other call,
+ * and take what the step says (acknowledged, filling) as said only then. A store that fails can be made again, any number of
+ * times: keep `bytes` and the answer until it is made. Where it cannot be made, give up state and staging and open the volume
+ * again, as after a cut of power: the step is then one that was never made.
+ *
+ * Refused as gaffreel_volume_step is; GAFFREEL_LENGTH_OR_LIMIT also where `bytes` is not GAFFREEL_VOLUME_SECTOR_SIZE long.
+ */
+uint32_t gaffreel_volume_next_store(uint8_t *state, size_t state_length, const uint8_t *volume, size_t volume_length,
+                                    uint8_t *staging, size_t staging_length, uint8_t *bytes, size_t bytes_length,
+                                    uint8_t *answer, size_t answer_length);
 
 /*
  * Makes so many steps, one after the other, as that many calls of gaffreel_volume_step would; in a recovery the journal is

@@ -13,8 +13,8 @@ trap 'rm -rf "$work"' EXIT
 warnings=(-Wall -Wextra -Werror -pedantic -O2)
 
 needed=$(nm --undefined-only --format=just-symbols "$library" | grep -v -e ':$' -e '^$' | sort -u | tr '\n' ' ')
-if [ "$needed" != "memcpy memmove memset " ]; then
-    echo "include/gaffreel.h says that the archive needs memcpy, memmove and memset; it needs: $needed"
+if [ "$needed" != "memcpy memset " ]; then
+    echo "include/gaffreel.h says that the archive needs memcpy and memset; it needs: $needed"
     exit 1
 fi
 if nm "$library" | grep -i ' [bcd] '; then

@@ -2,7 +2,7 @@
 ghost use mathlib.Core.Path.{_≡_};
 ghost use Rattle.setup_calls.specs.Setup.{formatCall, queryCall, openCall};
 ghost use Rattle.batch_calls.specs.Batch.{writeCall, flushCall, readCall};
-ghost use Rattle.step_calls.specs.Steps.{stepCall, advanceCall};
+ghost use Rattle.step_calls.specs.Steps.{stepCall, advanceCall, nextStoreCall};
 
 // Formats a volume for a layout.
 #[no_mangle]
@@ -80,6 +80,20 @@ pub extern "C" fn gaffreel_volume_step(
     ensures { λ r. ⌜ record { number = r; state = now (state .exit); volume = now (v .exit); staging = now (staging .exit); answer = now (answer .exit) } ≡ stepCall (now (state .entry)) (now (v .entry)) (now (staging .entry)) (now (answer .entry)) ⌝ }
 {
     step_calls::step(state, v, staging, answer)
+}
+
+// Makes a step but for its store, which is left to the volume's owner.
+#[no_mangle]
+pub extern "C" fn gaffreel_volume_next_store(
+    state: &mut [u8],
+    v: &[u8],
+    staging: &mut [u8],
+    sector: &mut [u8],
+    answer: &mut [u8],
+) -> u32
+    ensures { λ r. ⌜ record { number = r; state = now (state .exit); staging = now (staging .exit); sector = now (sector .exit); answer = now (answer .exit) } ≡ nextStoreCall (now (state .entry)) (now (v .entry)) (now (staging .entry)) (now (sector .entry)) (now (answer .entry)) ⌝ }
+{
+    step_calls::next_store(state, v, staging, sector, answer)
 }
 
 // Makes so many steps, one after the other.

@@ -1,4 +1,4 @@
 pub mod Scans
 pub mod Tables
 pub mod Ordering
-pub mod Lookups
+pub mod Walks

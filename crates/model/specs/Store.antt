@@ -3,6 +3,7 @@
 -- Store               : a sector of the volume and what it is to hold
 -- made v x            : the volume v with the store x made
 -- Effect              : what a call does to the volume: nothing, or one store
+-- contentOf out x     : what a loan that held out holds when the content of the effect x, if it has one, is put in it
 -- homeCount g e       : how many stores bring the entry e home
 -- homeStore g v e h   : the store h of them: the data sector, then the tag sector with only that tag replaced
 -- Place               : a place of a replay: a store that is to be made
@@ -32,6 +33,10 @@ pub data Effect : Type 0 where
 abbrev pub afterEffect : List ℕ → Effect → List ℕ
 afterEffect v none = v
 afterEffect v (one x) = made v x
+
+abbrev pub contentOf : List ℕ → Effect → List ℕ
+contentOf out none = out
+contentOf out (one x) = x .content
 
 -- ---- "for each entry in order, its data sector, then the tag sector with only that tag replaced"
 

@@ -1,9 +1,9 @@
 -- The stores of a section's used entries, entry by entry: counted, and found by number.
-use Prim.Native.Nat.{ℕ, zero, suc, _+_, _*_, _≤_, _<_}
+use Prim.Native.Nat.{ℕ, zero, suc, _+_, _-_, _*_, _≤_, _<_}
 use mathlib.Core.List.{List, [], _∷_, _++_, append-assoc, append-nil}
 use mathlib.Core.Logic.{_≢_}
 use mathlib.Core.Path.{_≡_, refl, sym, ap, _∙_}
-use native.Mathlib.Decide.{ℕ-discrete, decLe}
+use native.Mathlib.Decide.{ℕ-discrete, decLe, decLt}
 use native.Mathlib.Numerals.{add-one}
 use native.Mathlib.Omega.{arith}
 use lib.ListN.{length, getD, length-append}
@@ -109,7 +109,7 @@ module _ (g : Layout) (k : ℕ) (sec : List ℕ) where
   store-low : (i h : ℕ) → h < 2 → h < homeCount g (entry i)
   store-low i h l = rw (home-two g (entry i)) l
 
-  pub below-length : (i n : ℕ) → i ≤ n → length (below i) ≤ length (below n)
+  below-length : (i n : ℕ) → i ≤ n → length (below i) ≤ length (below n)
   below-length i n l = go (below-begins i n l)
     where
       go : Begins (below i) (below n) → length (below i) ≤ length (below n)
@@ -128,3 +128,26 @@ module _ (g : Layout) (sec : List ℕ) (x : Location) (l : x .entry < entryCount
 
   pub number-low : storeNumber g sec x < length (storesIn g (x .section) sec)
   number-low = omega (arith, count-used g (x .section) sec (x .entry) u, below-length g (x .section) sec (x .entry + 1) (entryCount (g .width)) (omega arith))
+
+-- ---- by its number
+
+module _ (g : Layout) (k : ℕ) (sec : List ℕ) where
+  -- the store of number m is one of an entry below n
+  pub data Numbered (n m : ℕ) : Type 0 where
+    numbered : (i h : ℕ) → i < n → h < 2 → entryOf (g .width) sec i .sector ≢ unused → length (storesBelow g k sec i) + h ≡ m → Numbered n m
+
+  number-more : (n m : ℕ) → (m < length (storesBelow g k sec n) → Numbered n m) → m < length (storesBelow g k sec (n + 1)) → Numbered (suc n) m
+  number-more n m ih l = go (decLt m (length (storesBelow g k sec n))) (ℕ-discrete (entryOf (g .width) sec n .sector) unused)
+    where
+      before : Numbered n m → Numbered (suc n) m
+      before (numbered i h a s u e) = numbered i h (omega arith) s u e
+
+      go : Dec (m < length (storesBelow g k sec n)) → Dec (entryOf (g .width) sec n .sector ≡ unused) → Numbered (suc n) m
+      go (yes q) d = before (ih q)
+      go (no q) (yes e) = absurd (omega (arith, count-unused g k sec n e))
+      go (no q) (no e) = numbered n (m - length (storesBelow g k sec n)) (omega arith) (omega (arith, count-used g k sec n e)) e (omega arith)
+
+  pub number-of : (n m : ℕ) → m < length (storesBelow g k sec n) → Numbered n m
+  number-of zero m l = absurd (omega arith)
+  number-of (suc n) m l =
+      number-more n m (number-of n m) (omega (arith, ap (λ (i : ℕ). length (storesBelow g k sec i)) (add-one n)))

@@ -14,7 +14,7 @@ ghost use Rattle.model.specs.Journal.{usedOf};
 ghost use Rattle.model.specs.Store.{storesOf};
 ghost use Rattle.section.specs.Locations.{FoundFrom};
 
-// A store of a replay: store `store` of entry `entry` of section `section`.
+// A store of a replay: store `store` of entry `entry` of section `section`. With a greater number than the entry has stores, one behind them.
 pub struct Location {
     pub section: usize,
     pub entry: usize,
@@ -173,19 +173,20 @@ pub fn stores_in(g: Layout, section: &[u8]) -> usize
     stores
 }
 
-// Store n of those that bring the entries of section k from `from` on home; its entry is E where there are not so many.
-pub fn location_in(g: Layout, section: &[u8], k: usize, from: usize, n: usize) -> Location
-    requires { ⌜ (layoutOk g ≡ true) × (length (now section) ≡ sectionSize (g .width) * sectorSize) ⌝ }
-    ensures { λ r. ⌜ FoundFrom g (now (section .entry)) from n r × (r .section ≡ k) ⌝ }
+// The store that is from.store stores on from the first of entry `from.entry`, of those that bring the section's used entries home. Where there are not
+// so many its entry is E, and its store how many are left.
+pub fn location_in(g: Layout, section: &[u8], from: Location) -> Location
+    requires { ⌜ (layoutOk g ≡ true) × (length (now section) ≡ sectionSize (g .width) * sectorSize) × (from .entry ≤ entryCount (g .width)) ⌝ }
+    ensures { λ r. ⌜ FoundFrom g (now (section .entry)) from r × (r .section ≡ from .section) ⌝ }
 {
     let count = layout::entry_count(g.width);
-    let mut left = n;
-    let mut i = from;
+    let mut left = from.store;
+    let mut i = from.entry;
     while i < count {
         if entry_sector(section, g.width, i) != UNUSED {
             if left < HOME_STORES {
                 return Location {
-                    section: k,
+                    section: from.section,
                     entry: i,
                     store: left,
                 };
@@ -195,8 +196,8 @@ pub fn location_in(g: Layout, section: &[u8], k: usize, from: usize, n: usize) -
         i += 1;
     }
     Location {
-        section: k,
+        section: from.section,
         entry: count,
-        store: 0,
+        store: left,
     }
 }

@@ -1,4 +1,5 @@
 // What is tested of loans and states: the model's specs/State.antt.
+use layout::MOST_SECTIONS;
 use layout::SECTOR_SIZE;
 use model::Layout;
 use model::Phase;
@@ -106,7 +107,7 @@ fn replay_stores(v: &[u8], g: Layout) -> usize
     requires { ⌜ (layoutOk g ≡ true) × (needed g * 512 ≤ length (now v)) ⌝ }
     ensures { λ r. ⌜ r ≡ storesOf g (replay g (now (v .entry))) ⌝ }
 {
-    let found = journal::journal::scan(v, g);
-    let stores = found.stores;
-    stores.total
+    let mut ids = [0u64; MOST_SECTIONS];
+    journal::journal::scan(v, g, &mut ids);
+    journal::journal::count_stores(&ids, v, g)
 }

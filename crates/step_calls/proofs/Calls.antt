@@ -12,14 +12,14 @@ use Rattle.model.specs.declared.Refusal.the-variants.{Malformed}
 use Rattle.model.specs.declared.State.{State}
 use Rattle.model.specs.declared.Stepped.{Stepped}
 use Rattle.model.specs.Refusal.{numberOf}
-use Rattle.model.specs.Step.{StepResult, stepOf}
+use Rattle.model.specs.Step.{StepResult, stepOf, nextStoreOf}
 use Rattle.model.specs.Advance.{advanceOf}
-use Rattle.volume_step.specs.Results.{Leaves}
+use Rattle.volume_step.specs.Results.{Leaves, Fills}
 use Rattle.volume.specs.Results.{advanced}
 use Rattle.digest_calls.specs.Outcome.{wrongLength}
 use Rattle.volume_state.specs.VolumeState.{decodeOf, encodeOf, encodesState}
 use Rattle.replies.specs.Replies.{answerSize, answerBytesOf, refusal, stepReply}
-use Rattle.step_calls.specs.Steps.{stepCall, advanceReply, advanceCall}
+use Rattle.step_calls.specs.Steps.{stepCall, advanceReply, advanceCall, nextStoreCall}
 use Rattle.replies.proofs.Answers.{Replied}
 
 -- ---- step
@@ -68,3 +68,27 @@ module _ (s v st : List ℕ) (k : ℕ) (a : List ℕ) where
         let made : advanced o v' st' ≡ advanceOf k (decodeOf s) v st = rw ed at e in
         let said : Replied (advanceReply (advanced o v' st')) n a' = rw ef at p in
         rw (eq-eqb (length a) answerSize fits, h, ← made, es, said .number, said .answer)
+
+-- ---- next store
+
+module _ (s v st out a : List ℕ) where
+  pub next-wrong : length a ≢ answerSize → record { number = wrongLength; state = s; staging = st; sector = out; answer = a } ≡ nextStoreCall s v st out a
+  unfolding nextStoreCall
+  next-wrong h = rw (ne-eqb (length a) answerSize h)
+
+  module _ (fits : length a ≡ answerSize) (a' : List ℕ) (n : ℕ) where
+    pub next-malformed : encodesState s ≡ false → (n ≡ numberOf Malformed) × (a' ≡ answerBytesOf (refusal Malformed))
+        → record { number = n; state = s; staging = st; sector = out; answer = a' } ≡ nextStoreCall s v st out a
+    unfolding nextStoreCall
+    next-malformed h p = rw (eq-eqb (length a) answerSize fits, h, p .0, p .1)
+
+    pub next-made : encodesState s ≡ true → (d : State) → d ≡ decodeOf s → (o : Stepped) (s' st' out' : List ℕ) → Fills out (nextStoreOf d v st out) o out' st'
+        → s' ≡ encodeOf (o .state) → Replied (stepReply (o .answer) 0 0) n a'
+        → record { number = n; state = s'; staging = st'; sector = out'; answer = a' } ≡ nextStoreCall s v st out a
+    unfolding nextStoreCall
+    next-made h d ed o s' st' out' e es p =
+        let filled : Fills out (nextStoreOf (decodeOf s) v st out) o out' st' = rw ed at e in
+        let x : StepResult = nextStoreOf (decodeOf s) v st out in
+        let answer : o .answer ≡ x .answer = ap (λ (z : Stepped). z .answer) (filled .returned) in
+        let state : s' ≡ encodeOf (x .state) = es ∙ ap (λ (z : Stepped). encodeOf (z .state)) (filled .returned) in
+        rw (eq-eqb (length a) answerSize fits, h, ← answer, state, filled .content, filled .staging, p .number, p .answer)

@@ -5,6 +5,8 @@
 -- advanceReply o            : what it then says
 -- stepCall s v st a         : what gaffreel_volume_step leaves of the state's buffer s, the volume v, staging st and the answer's buffer a
 -- advanceCall s v st n a    : what gaffreel_volume_advance leaves, for n steps
+-- nextStoreLeaves out o     : what gaffreel_volume_next_store leaves where the model's next store has the result o, and the sector's buffer held out
+-- nextStoreCall s v st out a : what it leaves of the state's buffer s, staging st, the sector's buffer out and the answer's buffer a; v is only read
 use Prim.Native.Nat.{ℕ}
 use mathlib.Core.Bool.{not}
 use mathlib.Core.List.{List, [], _∷_}
@@ -12,8 +14,8 @@ use lib.ListN.{length}
 use Rattle.octets.specs.Choice.{pick, firstMet}
 use Rattle.model.specs.declared.Refusal.the-variants.{Malformed}
 use Rattle.model.specs.Refusal.{numberOf}
-use Rattle.model.specs.Store.{afterEffect}
-use Rattle.model.specs.Step.{StepResult, stepOf}
+use Rattle.model.specs.Store.{afterEffect, contentOf}
+use Rattle.model.specs.Step.{StepResult, stepOf, nextStoreOf}
 use Rattle.model.specs.Advance.{AdvanceResult, advanceOf}
 use Rattle.replies.specs.declared.Reply.{Reply}
 use Rattle.volume_state.specs.VolumeState.{encodeOf, decodeOf, encodesState}
@@ -74,3 +76,35 @@ advanceCall s v st n a =
     (not (encodesState s), stepRefused (numberOf Malformed) s v st (answerBytesOf (refusal Malformed))) ∷
     [])
     (advanceLeaves (advanceOf n (decodeOf s) v st))
+
+-- ---- next store
+
+pub record NextStoreCall : Type 0 where
+  -- the number that the call answers
+  pub number : ℕ
+  -- the contents of the buffers afterwards
+  pub state : List ℕ
+  pub staging : List ℕ
+  pub sector : List ℕ
+  pub answer : List ℕ
+
+abbrev pub nextStoreRefused : ℕ → List ℕ → List ℕ → List ℕ → List ℕ → NextStoreCall
+nextStoreRefused n s st out a = record { number = n; state = s; staging = st; sector = out; answer = a }
+
+abbrev pub nextStoreLeaves : List ℕ → StepResult → NextStoreCall
+nextStoreLeaves out o =
+    record {
+      number = stepReply (o .answer) 0 0 .number;
+      state = encodeOf (o .state);
+      staging = o .staging;
+      sector = contentOf out (o .effect);
+      answer = answerBytesOf (stepReply (o .answer) 0 0);
+    }
+
+unfoldable pub nextStoreCall : List ℕ → List ℕ → List ℕ → List ℕ → List ℕ → NextStoreCall
+nextStoreCall s v st out a =
+    firstMet
+    ((differs (length a) answerSize, nextStoreRefused wrongLength s st out a) ∷
+    (not (encodesState s), nextStoreRefused (numberOf Malformed) s st out (answerBytesOf (refusal Malformed))) ∷
+    [])
+    (nextStoreLeaves out (nextStoreOf (decodeOf s) v st out))

@@ -15,7 +15,7 @@ use volume_state::encode;
 use volume_state::encodes_state;
 ghost use mathlib.Core.Path.{_≡_};
 ghost use Rattle.octets.specs.Choice.{pick};
-ghost use Rattle.step_calls.specs.Steps.{stepCall, advanceCall};
+ghost use Rattle.step_calls.specs.Steps.{stepCall, advanceCall, nextStoreCall};
 
 // A fact as a number.
 fn flag(b: bool) -> u64
@@ -71,4 +71,28 @@ pub fn advance(
         step_reply(said, advanced.stores as u64, acknowledged),
         answer,
     )
+}
+
+// Makes a step but for its store, which is left to the volume's owner: the answer names the sector, and its content goes to the sector's buffer. Refused
+// as a step is, and where the sector's buffer has a wrong length.
+pub fn next_store(
+    state: &mut [u8],
+    v: &[u8],
+    staging: &mut [u8],
+    sector: &mut [u8],
+    answer: &mut [u8],
+) -> u32
+    ensures { λ r. ⌜ record { number = r; state = now (state .exit); staging = now (staging .exit); sector = now (sector .exit); answer = now (answer .exit) } ≡ nextStoreCall (now (state .entry)) (now (v .entry)) (now (staging .entry)) (now (sector .entry)) (now (answer .entry)) ⌝ }
+{
+    if answer.len() != ANSWER_SIZE {
+        return WRONG_LENGTH;
+    }
+    if !encodes_state(state) {
+        return put_malformed(answer);
+    }
+    let stepped = volume::next_store::next_store(decode(state), v, staging, sector);
+    let next = stepped.state;
+    encode(next, state);
+    let told = stepped.answer;
+    put_reply(step_reply(told, 0, 0), answer)
 }

@@ -1,15 +1,16 @@
 -- Advance: one step more, and the steps of a recovery on one scan.
-use Prim.Native.Nat.{ℕ, suc, _+_, _-_, _*_, _%_, _≤_, _<_}
+use Prim.Native.Nat.{ℕ, zero, suc, _+_, _-_, _*_, _%_, _≤_, _<_}
 use mathlib.Core.Bool.{Bool, true, false, not, _&&_, _||_}
-use mathlib.Core.List.{List, [], _∷_}
+use mathlib.Core.List.{List}
+use mathlib.Core.Logic.{_≢_}
 use mathlib.Core.Path.{_≡_, refl, sym, ap, _∙_, subst}
 use native.Mathlib.Numerals.{add-one}
 use native.Mathlib.Omega.{arith}
-use lib.Dec.{leb, eqb}
+use lib.Dec.{leb, ltb, eqb}
 use lib.ListN.{length, take, length-append}
 use lib.Seq.{length-take-le}
-use borrow.Author.Tests.{leb-false, eq-eqb, ne-eqb}
-use Rattle.octets.specs.Choice.{pick, firstMet}
+use borrow.Author.Tests.{lt-ltb}
+use Rattle.octets.specs.Choice.{pick}
 use Rattle.octets.specs.Parts.{part}
 use Rattle.octets.specs.Sectors.{sectorAt}
 use Rattle.octets.proofs.Parts.{length-part}
@@ -17,35 +18,32 @@ use Rattle.model.specs.declared.Advanced.{Advanced}
 use Rattle.model.specs.declared.Layout.{Layout}
 use Rattle.model.specs.declared.Phase.{Phase}
 use Rattle.model.specs.declared.Phase.the-variants.{Recovering}
-use Rattle.model.specs.declared.Refusal.the-variants.{JournalRange}
 use Rattle.model.specs.declared.State.{State}
 use Rattle.model.specs.declared.Stepped.{Stepped}
 use Rattle.model.specs.Layout.{mostSectors, entryCount, sectionSize, sectionAt, needed, layoutOk}
-use Rattle.model.specs.Section.{Entry, metadataOf, entryOffset, entryOf, emptySection}
+use Rattle.model.specs.Section.{Entry, metadataOf, entryOffset, entryOf}
 use Rattle.model.specs.Journal.{sectionOf, replay}
-use Rattle.model.specs.Store.{one, afterEffect, made, homeStore, Place, storesOf}
+use Rattle.model.specs.Store.{made, homeStore, storesOf}
 use Rattle.model.specs.Tag.{tagOf}
-use Rattle.model.specs.State.{passed, refused, placeOk, volumeLoanOk, stateOk, volumeOk, stagingOk}
+use Rattle.model.specs.State.{placeOk, volumeLoanOk, stateOk, volumeOk, stagingOk}
 use Rattle.model.specs.Flush.{inPhase}
-use Rattle.model.specs.Step.{StepResult, placeAt, placeRow, homeStep, recoverPlace, phaseStep, stepBy, stepOf}
+use Rattle.model.specs.Step.{placeAt, stepOf}
 use Rattle.model.specs.World.{stepAcknowledges}
 use Rattle.model.specs.Advance.{AdvanceResult, storesIn, oneMore, advanceFrom}
 use Rattle.model.proofs.Addresses.{ranged}
-use Rattle.model.proofs.Advances.{step-quiet, all-same, advance-more}
+use Rattle.model.proofs.Advances.{all-same, advance-more}
 use Rattle.model.proofs.Homes.{home-length, home-sections}
 use Rattle.model.proofs.Plans.{home-two}
-use Rattle.model.proofs.Sections.{per-pos, length-empty}
 use Rattle.section.specs.declared.Location.{Location}
-use Rattle.journal.specs.declared.Scan.{Scan}
 use Rattle.section.specs.Locations.{Locates}
-use Rattle.journal.specs.Scan.{scanOf, Located}
+use Rattle.journal.specs.Replay.{idsOf, locationAt}
 use Rattle.section.proofs.Entries.{metadata-high, entry-end}
-use Rattle.journal.proofs.Lookups.{scan-kept, located-kept}
+use Rattle.journal.proofs.Walks.{located, is-there, counted-after, replay-high, ids-kept, location-kept}
 use Rattle.layout.proofs.Sizes.{width-high, section-inside}
-use Rattle.volume_step.specs.Results.{Leaves}
+use Rattle.volume_step.specs.Results.{Leaves, recovered}
 use Rattle.volume.specs.Results.{advanced, stepAdded}
 use Rattle.sound.proofs.Sound.{state-layout, fit-room, volume-below}
-use Rattle.volume_step.proofs.Steps.{scan-total, in-phase}
+use Rattle.volume_step.proofs.Making.{place-made}
 
 -- ---- one step more
 
@@ -94,7 +92,7 @@ module _ (last next : Advanced) (x : Stepped) (e : next ≡ stepAdded last x) (v
         sym (ap (λ (a : AdvanceResult). storesIn (a .answer)) reached) ∙ ap (λ (a : Advanced). storesIn (a .answer)) e ∙ q in
         reached ∙ sym (all-same (advanceFrom i b) m quiet) ∙ advance-more b i (suc m) ∙ ap (λ (k : ℕ). advanceFrom k b) count
 
--- ---- a step of a recovery that stores a sector
+-- ---- a store of a recovery
 
 -- an entry that is read from a section
 module _ (t i : ℕ) (small : t ≤ 32) (l : i < entryCount t) (sec : List ℕ) (size : length sec ≡ sectionSize t * 512) where
@@ -114,117 +112,49 @@ module _ (t i : ℕ) (small : t ≤ 32) (l : i < entryCount t) (sec : List ℕ) 
   tag-length =
       length-part (sectorAt sec (metadataOf t i)) (entryOffset t i + 16) t (omega (arith, entry-end t i small l, sector-length (metadataOf t i) (omega (arith, metadata-high t i small l))))
 
-module _ (s : State) (v st : List ℕ) (e : Entry) (h : ℕ) (p : Phase) (left : List ℕ) where
-  home-effect : (last : Bool) → homeStep s v st e h last p left .effect ≡ one (homeStore (s .layout) v e h)
-  unfolding homeStep
-  home-effect true = refl
-  home-effect false = refl
-
-  home-stores : (last : Bool) → storesIn (homeStep s v st e h last p left .answer) ≡ 1
-  unfolding homeStep
-  home-stores true = refl
-  home-stores false = refl
-
-  home-state : homeStep s v st e h false p left .state ≡ inPhase s p
-  unfolding homeStep
-  home-state = refl
-
-module _ (s : State) (v st : List ℕ) (sound : stateOk s ≡ true) (fits : volumeOk s v ≡ true) (staging : stagingOk (s .layout) st ≡ true)
-    (k : ℕ) (phase : s .phase ≡ Recovering k) (x : Location) (at : Located (s .layout) v x k) where
+-- the store that x names leaves the volume's length and its sections as they were
+module _ (g : Layout) (ok : layoutOk g ≡ true) (v : List ℕ) (room : needed g * 512 ≤ length v) (x : Location) (l : x .section < g .sections) (h : x .entry < entryCount (g .width)) (half : x .store < 2) where
   abbrev entry : Entry
-  entry = entryOf (s .layout .width) (sectionOf (s .layout) v (x .section)) (x .entry)
+  entry = entryOf (g .width) (sectionOf g v (x .section)) (x .entry)
 
-  abbrev home : StepResult
-  home = homeStep s v st entry (x .store) (eqb (k + 1) (storesOf (s .layout) (replay (s .layout) v))) (Recovering (k + 1)) st
+  section-length : length (sectionOf g v (x .section)) ≡ sectionSize (g .width) * 512
+  section-length = length-part v (sectionAt g (x .section) * 512) (sectionSize (g .width) * 512) (omega (arith, section-inside g ok (length v) (x .section) room l))
 
-  abbrev by : Bool → StepResult
-  by b = stepBy s v st (pick b (refused (JournalRange (x .section) (x .entry))) passed)
+  whole : length (entry .bytes) ≡ 512
+  whole = bytes-length (g .width) (x .entry) (width-high g ok) h (sectionOf g v (x .section)) section-length
 
-  by-place : stepOf s v st ≡ by (leb (s .layout .provided) (entry .sector))
-  by-place =
-      in-phase s v st sound fits staging (Recovering k) phase
-      ∙ ap (λ (p : Place). stepBy s v st (firstMet (placeRow (s .layout) p ∷ []) passed)) (sym (at .found .place))
+  sized : length (entry .tag) ≡ g .width
+  sized = tag-length (g .width) (x .entry) (width-high g ok) h (sectionOf g v (x .section)) section-length
 
-  brings-home : 0 < storesIn (stepOf s v st .answer) → (entry .sector < s .layout .provided) × (stepOf s v st ≡ home)
-  brings-home stored = go (leb (s .layout .provided) (entry .sector)) refl
-    where
-      go : (b : Bool) → leb (s .layout .provided) (entry .sector) ≡ b → (entry .sector < s .layout .provided) × (stepOf s v st ≡ home)
-      go true q = absurd (omega (arith, ap (λ (o : StepResult). storesIn (o .answer)) (by-place ∙ ap by q)))
-      go false q = (
-        leb-false (s .layout .provided) (entry .sector) q,
-        by-place ∙ ap by q ∙ ap (phaseStep s v st) phase ∙ ap (recoverPlace s v st k) (sym (at .found .place)),
-      )
+  module _ (low : entry .sector < g .provided) (v′ : List ℕ) (home : v′ ≡ made v (homeStore g v entry (x .store))) where
+    length-same : length v ≡ length v′
+    length-same = sym (ap length home ∙ home-length g (ranged g ok) (tagOf (g .width)) v room entry low whole sized (x .store) half)
 
-  module _ (room : needed (s .layout) * 512 ≤ length v) (o : Stepped) (v′ : List ℕ) (left : Leaves v (stepOf s v st) o v′ st) (stored : 0 < storesIn (o .answer)) where
-    is-home : (entry .sector < s .layout .provided) × (stepOf s v st ≡ home)
-    is-home = brings-home (omega (arith, ap (λ (a : Stepped). storesIn (a .answer)) (left .returned)))
-
-    volume-home : v′ ≡ made v (homeStore (s .layout) v entry (x .store))
-    volume-home =
-        left .volume ∙ ap (λ (r : StepResult). afterEffect v (r .effect)) (is-home .1)
-        ∙ ap (afterEffect v) (home-effect s v st entry (x .store) (Recovering (k + 1)) st (eqb (k + 1) (storesOf (s .layout) (replay (s .layout) v))))
-
-    returned : o ≡ record { answer = home .answer; state = home .state }
-    returned = left .returned ∙ ap (λ (r : StepResult). record { answer = r .answer; state = r .state }) (is-home .1)
-
-    pub one-store : storesIn (o .answer) ≡ 1
-    one-store =
-        ap (λ (a : Stepped). storesIn (a .answer)) returned
-        ∙ home-stores s v st entry (x .store) (Recovering (k + 1)) st (eqb (k + 1) (storesOf (s .layout) (replay (s .layout) v)))
-
-    pub next-state : k + 1 < storesOf (s .layout) (replay (s .layout) v) → o .state ≡ inPhase s (Recovering (k + 1))
-    next-state l =
-        ap (λ (a : Stepped). a .state) returned
-        ∙ ap (λ (b : Bool). homeStep s v st entry (x .store) b (Recovering (k + 1)) st .state) (ne-eqb (k + 1) (storesOf (s .layout) (replay (s .layout) v)) (λ z. omega arith))
-        ∙ home-state s v st entry (x .store) (Recovering (k + 1)) st
-
-    ok : layoutOk (s .layout) ≡ true
-    ok = state-layout s sound
-
-    section-length : length (sectionOf (s .layout) v (x .section)) ≡ sectionSize (s .layout .width) * 512
-    section-length =
-        length-part v (sectionAt (s .layout) (x .section) * 512) (sectionSize (s .layout .width) * 512)
-        (omega (arith, section-inside (s .layout) ok (length v) (x .section) room (at .section)))
-
-    whole : length (entry .bytes) ≡ 512
-    whole = bytes-length (s .layout .width) (x .entry) (width-high (s .layout) ok) (at .found .entry) (sectionOf (s .layout) v (x .section)) section-length
-
-    sized : length (entry .tag) ≡ s .layout .width
-    sized = tag-length (s .layout .width) (x .entry) (width-high (s .layout) ok) (at .found .entry) (sectionOf (s .layout) v (x .section)) section-length
-
-    half : x .store < 2
-    half = omega (arith, at .found .store, home-two (s .layout) entry)
-
-    pub length-same : length v ≡ length v′
-    length-same =
-        sym (ap length volume-home ∙ home-length (s .layout) (ranged (s .layout) ok) (tagOf (s .layout .width)) v room entry (is-home .0) whole sized (x .store) half)
-
-    pub sections-same : (j : ℕ) → j < s .layout .sections → sectionOf (s .layout) v j ≡ sectionOf (s .layout) v′ j
-    sections-same j l =
-        sym (ap (λ (w : List ℕ). sectionOf (s .layout) w j) volume-home
-        ∙ home-sections (s .layout) (ranged (s .layout) ok) (tagOf (s .layout .width)) v room entry (is-home .0) whole sized (x .store) half j l)
+    sections-same : (j : ℕ) → j < g .sections → sectionOf g v j ≡ sectionOf g v′ j
+    sections-same j q =
+        sym (ap (λ (w : List ℕ). sectionOf g w j) home ∙ home-sections g (ranged g ok) (tagOf (g .width)) v room entry low whole sized (x .store) half j q)
 
 -- ---- a recovery
 
--- What holds between two steps of a recovery that began with b on the volume v₀, at store k: i stores were made, and left the volume v; x is the next.
-pub record Underway (b : Advanced) (v₀ : List ℕ) (k : ℕ) (found : Scan) (i : ℕ) (last : Advanced) (x : Location) (v : List ℕ) : Type 0 where
-  pub reach : (st : List ℕ) → stagingOk (b .state .layout) st ≡ true → advanced last v st ≡ advanceFrom i (advanced b v₀ st)
-  pub stores : last .stores ≡ i
-  pub state : last .state ≡ inPhase (b .state) (Recovering (k + i))
+-- what i steps of a recovery from store k on hand back, the last of which stored sector `at`; `more` says whether there is a store after it
+abbrev pub resultOf : Advanced → ℕ → ℕ → ℕ → Bool → Advanced
+resultOf b k zero at more = b
+resultOf b k (suc i) at more =
+    record {
+      answer = recovered (b .state) at (k + suc i) more .answer;
+      stores = suc i;
+      acknowledged = b .acknowledged;
+      state = recovered (b .state) at (k + suc i) more .state;
+    }
+
+-- What holds between two steps of a recovery that began with b on the volume v₀, at store k: i stores were made, the last to sector `at`, and left the
+-- volume v; x is the next.
+pub record Underway (b : Advanced) (v₀ : List ℕ) (k : ℕ) (ids : List ℕ) (i at : ℕ) (x : Location) (v : List ℕ) : Type 0 where
+  pub reach : (st : List ℕ) → stagingOk (b .state .layout) st ≡ true
+      → advanced (resultOf b k i at (ltb (x .section) (b .state .layout .sections))) v st ≡ advanceFrom i (advanced b v₀ st)
   pub fit : volumeLoanOk v && leb (needed (b .state .layout) * 512) (length v) ≡ true
-  pub scan : found ≡ scanOf (b .state .layout) v
-  pub below : k + i < found .stores .total
-  pub at : Located (b .state .layout) v x (k + i)
-
--- what recover_step asks for
-abbrev pub Ready : State → List ℕ → ℕ → ℕ → Location → Type 0
-Ready s v k total x =
-    (stateOk s ≡ true) × (volumeOk s v ≡ true) × (s .phase ≡ Recovering k) × (total ≡ storesOf (s .layout) (replay (s .layout) v))
-    × Locates (s .layout) (sectionOf (s .layout) v (x .section)) x (placeAt (s .layout) v k) × (x .section < s .layout .sections)
-
--- what it ensures
-abbrev pub Does : State → List ℕ → Stepped → List ℕ → Type 0
-Does s v o v′ = (st : List ℕ) → stagingOk (s .layout) st ≡ true → Leaves v (stepOf s v st) o v′ st
+  pub scan : ids ≡ idsOf (b .state .layout) v
+  pub next : x ≡ locationAt (b .state .layout) v (k + i)
 
 state-recovering : (s : State) → stateOk s ≡ true → (k j : ℕ) → s .phase ≡ Recovering k → stateOk (inPhase s (Recovering j)) ≡ true
 unfolding stateOk
@@ -232,118 +162,147 @@ state-recovering s sound k j q =
     ap (λ (p : Phase). layoutOk (s .layout) && (leb (s .count) (entryCount (s .layout .width)) && (not (eqb (s .id) 0) && placeOk (s .layout) (s .count) (s .id) p)))
     (sym q) ∙ sound
 
-empty-fits : (g : Layout) → layoutOk g ≡ true → stagingOk g (emptySection (g .width)) ≡ true
-unfolding stagingOk
-empty-fits g ok =
-    eq-eqb (length (emptySection (g .width))) (sectionSize (g .width) * 512) (length-empty (g .width) (per-pos (g .width) (omega (arith, width-high g ok))))
-
-module _ (b : Advanced) (sound : stateOk (b .state) ≡ true) (k : ℕ) (phase : b .state .phase ≡ Recovering k) (v₀ : List ℕ) (found : Scan) where
+module _ (b : Advanced) (none : b .stores ≡ 0) (sound : stateOk (b .state) ≡ true) (k : ℕ) (phase : b .state .phase ≡ Recovering k) (v₀ ids : List ℕ) where
   abbrev g : Layout
   g = b .state .layout
 
-  pub begins : b .stores ≡ 0 → volumeLoanOk v₀ && leb (needed g * 512) (length v₀) ≡ true → found ≡ scanOf g v₀ → k < found .stores .total
-      → (x : Location) → Located g v₀ x k → Underway b v₀ k found 0 b x v₀
+  ok : layoutOk g ≡ true
+  ok = state-layout (b .state) sound
+
+  pub begins : volumeLoanOk v₀ && leb (needed g * 512) (length v₀) ≡ true → ids ≡ idsOf g v₀ → (x : Location) → x ≡ locationAt g v₀ k → (at : ℕ) → Underway b v₀ k ids 0 at x v₀
   unfolding advanceFrom
-  begins z fit scan low x at =
-      let same : k ≡ k + 0 = omega arith in
-      record {
-        reach = λ st q. refl;
-        stores = z;
-        state = λ i. record { layout = b .state .layout; phase = (phase ∙ ap Recovering same) i; count = b .state .count; id = b .state .id };
-        fit = fit;
-        scan = scan;
-        below = omega arith;
-        at = subst (λ (n : ℕ). Located g v₀ x n) same at;
-      }
+  begins fit scan x e at = record { reach = λ st q. refl; fit = fit; scan = scan; next = e ∙ ap (locationAt g v₀) {x = k} {y = k + 0} (omega arith) }
 
-  module _ (i : ℕ) (last : Advanced) (x : Location) (v : List ℕ) (u : Underway b v₀ k found i last x v) where
-    abbrev here : State
-    here = inPhase (b .state) (Recovering (k + i))
+  -- the state and the count that i steps leave, with more to come
+  module _ (at : ℕ) where
+    state-after : (i : ℕ) → resultOf b k i at true .state ≡ inPhase (b .state) (Recovering (k + i))
+    state-after zero =
+        let same : k ≡ k + 0 = omega arith in
+        λ i. record { layout = b .state .layout; phase = (phase ∙ ap Recovering same) i; count = b .state .count; id = b .state .id }
+    state-after (suc i) = refl
 
-    total : found .stores .total ≡ storesOf g (replay g v)
-    total = scan-total g v found (u .scan)
+    stores-after : (i : ℕ) → resultOf b k i at true .stores ≡ i
+    stores-after zero = none
+    stores-after (suc i) = refl
 
-    sound-here : stateOk here ≡ true
-    sound-here = state-recovering (b .state) sound k (k + i) phase
+    acknowledged-after : (i : ℕ) → resultOf b k i at true .acknowledged ≡ b .acknowledged
+    acknowledged-after zero = refl
+    acknowledged-after (suc i) = refl
 
-    fits-here : volumeOk here v ≡ true
-    fits-here = volume-below here v (u .fit) (k + i) refl (omega (arith, total, u .below))
+    -- one step more
+    result-next : (i at′ : ℕ) (more : Bool) → resultOf b k (suc i) at′ more ≡ stepAdded (resultOf b k i at true) (recovered (b .state) at′ (k + suc i) more)
+    result-next i at′ more = go more
+      where
+        count : suc i ≡ resultOf b k i at true .stores + 1
+        count = omega (arith, stores-after i)
 
-    pub ready : Ready (last .state) v (k + i) (found .stores .total) x
-    ready =
-        subst (λ (s : State). Ready s v (k + i) (found .stores .total) x) (sym (u .state))
-        (sound-here, fits-here, refl, total, u .at .found, u .at .section)
+        go : (more : Bool) → resultOf b k (suc i) at′ more ≡ stepAdded (resultOf b k i at true) (recovered (b .state) at′ (k + suc i) more)
+        go true = λ j. record {
+          answer = recovered (b .state) at′ (k + suc i) true .answer;
+          stores = count j;
+          acknowledged = sym (acknowledged-after i) j;
+          state = recovered (b .state) at′ (k + suc i) true .state;
+        }
+        go false = λ j. record {
+          answer = recovered (b .state) at′ (k + suc i) false .answer;
+          stores = count j;
+          acknowledged = sym (acknowledged-after i) j;
+          state = recovered (b .state) at′ (k + suc i) false .state;
+        }
 
-    module _ (o : Stepped) (v′ : List ℕ) (does : Does (last .state) v o v′) where
-      does-here : Does here v o v′
-      does-here = subst (λ (s : State). Does s v o v′) (u .state) does
+  module _ (i at : ℕ) (x : Location) (v : List ℕ) (u : Underway b v₀ k ids i at x v) where
+    pub ok-here : (layoutOk g ≡ true) × (needed g * 512 ≤ length v)
+    ok-here = (ok, fit-room (b .state) v (u .fit))
 
-      fitting : (st : List ℕ) → stagingOk g st ≡ true → Leaves v (stepOf (last .state) v st) o v′ st
-      fitting st q = does st (subst (λ (s : State). stagingOk (s .layout) st ≡ true) (sym (u .state)) q)
+    pub high : x .section ≤ g .sections
+    high = counted-after g v ok (k + i) x (u .next) .0
 
-      -- the step is refused
-      pub stops : storesIn (o .answer) ≡ 0 → (st : List ℕ) → stagingOk g st ≡ true → advanced last v′ st ≡ advanceFrom (last .stores) (advanced b v₀ st)
-      stops q st staging =
-          let left : Leaves v (stepOf (last .state) v st) o v′ st = fitting st staging in
-          let quiet : storesIn (stepOf (last .state) v st .answer) ≡ 0 = sym (ap (λ (a : Stepped). storesIn (a .answer)) (left .returned)) ∙ q in
-          ap (λ (w : List ℕ). advanced last w st) (left .volume ∙ step-quiet (last .state) v st quiet .volume)
-          ∙ u .reach st staging ∙ ap (λ (n : ℕ). advanceFrom n (advanced b v₀ st)) (sym (u .stores))
+    module _ (l : x .section < g .sections) where
+      abbrev here : State
+      here = inPhase (b .state) (Recovering (k + i))
 
-      module _ (stored : 0 < storesIn (o .answer)) (next : Advanced) (e : next ≡ stepAdded last o) where
-        abbrev empty : List ℕ
-        empty = emptySection (g .width)
+      pub there : (k + i < storesOf g (replay g v)) × Locates g (sectionOf g v (x .section)) x (placeAt g v (k + i))
+      there = located g v ok (k + i) x (u .next) l
 
-        empty-here : stagingOk g empty ≡ true
-        empty-here = empty-fits g (state-layout (b .state) sound)
+      pub low : k + i < 31744
+      low = omega (arith, there .0, replay-high g v ok)
 
-        room : needed g * 512 ≤ length v
-        room = fit-room (b .state) v (u .fit)
+      pub half : x .store < 2
+      half = omega (arith, there .1 .store, home-two g (entryOf (g .width) (sectionOf g v (x .section)) (x .entry)))
 
-        left-here : Leaves v (stepOf here v empty) o v′ empty
-        left-here = does-here empty empty-here
+      sound-here : stateOk here ≡ true
+      sound-here = state-recovering (b .state) sound k (k + i) phase
+
+      fits-here : volumeOk here v ≡ true
+      fits-here = volume-below here v (u .fit) (k + i) refl (there .0)
+
+      module _ (sector : ℕ) (es : sector ≡ entryOf (g .width) (sectionOf g v (x .section)) (x .entry) .sector) (below : sector < g .provided) (at′ : ℕ) (v′ : List ℕ)
+          (home : (at′ ≡ homeStore g v (entryOf (g .width) (sectionOf g v (x .section)) (x .entry)) (x .store) .at)
+          × (v′ ≡ made v (homeStore g v (entryOf (g .width) (sectionOf g v (x .section)) (x .entry)) (x .store)))) where
+        sized-same : length v ≡ length v′
+        sized-same = length-same g ok v (ok-here .1) x l (there .1 .entry) half (omega (arith, es)) v′ (home .1)
 
         same : (j : ℕ) → j < g .sections → sectionOf g v j ≡ sectionOf g v′ j
-        same = sections-same here v empty sound-here fits-here empty-here (k + i) refl x (u .at) room o v′ left-here stored
+        same = sections-same g ok v (ok-here .1) x l (there .1 .entry) half (omega (arith, es)) v′ (home .1)
 
-        sized-same : length v ≡ length v′
-        sized-same = length-same here v empty sound-here fits-here empty-here (k + i) refl x (u .at) room o v′ left-here stored
+        -- what next_location asks for
+        pub continues : (layoutOk g ≡ true) × (needed g * 512 ≤ length v′) × (ids ≡ idsOf g v′) × ((n : ℕ) × (x ≡ locationAt g v′ n))
+        continues = (ok, omega (arith, ok-here .1, sized-same), u .scan ∙ ids-kept g v v′ same, (k + i, u .next ∙ location-kept g v v′ same (k + i)))
 
-        pub stores-next : next .stores ≡ i + 1
-        stores-next =
-            let more : next .stores ≡ last .stores + storesIn (o .answer) = ap (λ (a : Advanced). a .stores) e in
-            omega (arith, u .stores, one-store here v empty sound-here fits-here empty-here (k + i) refl x (u .at) room o v′ left-here stored)
+        module _ (y : Location) (ey : (n : ℕ) → x ≡ locationAt g v′ n → y ≡ locationAt g v′ (n + 1)) where
+          next-is : y ≡ locationAt g v′ (k + suc i)
+          next-is = ey (k + i) (u .next ∙ location-kept g v v′ same (k + i)) ∙ ap (locationAt g v′) {x = k + i + 1} {y = k + suc i} (omega arith)
 
-        reach-next : (st : List ℕ) → stagingOk g st ≡ true → advanced next v′ st ≡ advanceFrom (i + 1) (advanced b v₀ st)
-        reach-next st q = made-more last next o e v st v′ st (fitting st q) (advanced b v₀ st) i (u .reach st q)
+          more-is : ltb (y .section) (g .sections) ≡ ltb (k + i + 1) (storesOf g (replay g v))
+          more-is =
+              is-there g v ok (k + i + 1) y (ey (k + i) (u .next ∙ location-kept g v v′ same (k + i)) ∙ sym (location-kept g v v′ same (k + i + 1)))
 
-        -- no store is to come
-        pub ends : (st : List ℕ) → stagingOk g st ≡ true → advanced next v′ st ≡ advanceFrom (next .stores) (advanced b v₀ st)
-        ends st q = reach-next st q ∙ ap (λ (n : ℕ). advanceFrom n (advanced b v₀ st)) (sym stores-next)
+          makes : (st : List ℕ) → stagingOk g st ≡ true → Leaves v (stepOf here v st) (recovered (b .state) at′ (k + suc i) (ltb (y .section) (g .sections))) v′ st
+          makes st q =
+              place-made here v st sound-here fits-here q (k + i) refl x (there .1) sector es below at′ v′ home
+              (recovered (b .state) at′ (k + suc i) (ltb (y .section) (g .sections))) (ltb (y .section) (g .sections)) more-is
+              (ap (λ (n : ℕ). recovered here at′ n (ltb (y .section) (g .sections))) {x = k + suc i} {y = k + i + 1} (omega arith))
 
-        scan-next : found ≡ scanOf g v′
-        scan-next = u .scan ∙ scan-kept g v v′ same
+          fit-next : volumeLoanOk v′ && leb (needed g * 512) (length v′) ≡ true
+          fit-next = subst (λ (n : ℕ). (eqb (n % 512) 0 && leb n (mostSectors * 512)) && leb (needed g * 512) n ≡ true) sized-same (u .fit)
 
-        fit-next : volumeLoanOk v′ && leb (needed g * 512) (length v′) ≡ true
-        fit-next =
-            subst (λ (n : ℕ). (eqb (n % 512) 0 && leb n (mostSectors * 512)) && leb (needed g * 512) n ≡ true) sized-same (u .fit)
+          reach-next : (st : List ℕ) → stagingOk g st ≡ true
+              → advanced (resultOf b k (suc i) at′ (ltb (y .section) (g .sections))) v′ st ≡ advanceFrom (i + 1) (advanced b v₀ st)
+          reach-next st q =
+              let last : Advanced = resultOf b k i at true in
+              made-more last (resultOf b k (suc i) at′ (ltb (y .section) (g .sections))) (recovered (b .state) at′ (k + suc i) (ltb (y .section) (g .sections)))
+              (result-next at i at′ (ltb (y .section) (g .sections))) v st v′ st
+              (subst (λ (s : State). Leaves v (stepOf s v st) (recovered (b .state) at′ (k + suc i) (ltb (y .section) (g .sections))) v′ st) (sym (state-after at i)) (makes st q))
+              (advanced b v₀ st) i
+              (ap (λ (m : Bool). advanced (resultOf b k i at m) v st) (sym (lt-ltb (x .section) (g .sections) l)) ∙ u .reach st q)
 
-        module _ (more : k + i + 1 < found .stores .total) where
-          -- what next_location asks for
-          pub continues : (layoutOk g ≡ true) × (needed g * 512 ≤ length v′) × (found ≡ scanOf g v′) × Located g v′ x (k + i) × (k + i + 1 < storesOf g (replay g v′))
-          continues =
-              (state-layout (b .state) sound, omega (arith, room, sized-same), scan-next, located-kept g v v′ same x (k + i) (u .at), omega (arith, scan-total g v′ found scan-next))
-
-          pub again : (y : Location) → Located g v′ y (k + i + 1) → Underway b v₀ k found (i + 1) next y v′
-          again y at =
-              let one-on : k + i + 1 ≡ k + (i + 1) = omega arith in
+          pub again : Underway b v₀ k ids (i + 1) at′ y v′
+          again =
+              let one-on : suc i ≡ i + 1 = omega arith in
               record {
-                reach = reach-next;
-                stores = stores-next;
-                state =
-                    ap (λ (a : Advanced). a .state) e ∙ next-state here v empty sound-here fits-here empty-here (k + i) refl x (u .at) room o v′ left-here stored (omega (arith, total))
-                    ∙ ap (λ (n : ℕ). inPhase (b .state) (Recovering n)) one-on;
+                reach = λ st q. ap (λ (n : ℕ). advanced (resultOf b k n at′ (ltb (y .section) (g .sections))) v′ st) (sym one-on) ∙ reach-next st q;
                 fit = fit-next;
-                scan = scan-next;
-                below = omega arith;
-                at = subst (λ (n : ℕ). Located g v′ y n) one-on at;
+                scan = u .scan ∙ ids-kept g v v′ same;
+                next = next-is ∙ ap (λ (n : ℕ). locationAt g v′ (k + n)) one-on;
               }
+
+    -- ---- what is handed back
+
+    pub nothing-made : i ≡ 0 → (st : List ℕ) → stagingOk g st ≡ true → advanced b v st ≡ advanceFrom (b .stores) (advanced b v₀ st)
+    nothing-made z st q =
+        ap (λ (n : ℕ). advanced (resultOf b k n at (ltb (x .section) (g .sections))) v st) (sym z) ∙ u .reach st q
+        ∙ ap (λ (n : ℕ). advanceFrom n (advanced b v₀ st)) (z ∙ sym none)
+
+    pub steps-made : (r : Advanced) (o : Stepped) → r ≡ record { answer = o .answer; stores = i; acknowledged = b .acknowledged; state = o .state }
+        → o ≡ recovered (b .state) at (k + i) (ltb (x .section) (g .sections)) → i ≢ 0 → (st : List ℕ) → stagingOk g st ≡ true
+        → advanced r v st ≡ advanceFrom (r .stores) (advanced b v₀ st)
+    steps-made r o er eo nz st q =
+        ap (λ (a : Advanced). advanced a v st) er
+        ∙ ap (λ (o : Stepped). advanced (record { answer = o .answer; stores = i; acknowledged = b .acknowledged; state = o .state }) v st) eo
+        ∙ go i nz ∙ u .reach st q ∙ ap (λ (a : Advanced). advanceFrom (a .stores) (advanced b v₀ st)) (sym er)
+      where
+        go : (i : ℕ) → i ≢ 0
+            → advanced (record { answer = recovered (b .state) at (k + i) (ltb (x .section) (g .sections)) .answer; stores = i; acknowledged = b .acknowledged; state = recovered (b .state) at (k + i) (ltb (x .section) (g .sections)) .state }) v st
+            ≡ advanced (resultOf b k i at (ltb (x .section) (g .sections))) v st
+        go zero nz = absurd (nz refl)
+        go (suc i) nz = refl

@@ -1,7 +1,7 @@
 // Advance: so many steps, one after the other; the model's specs/Advance.antt. A recovery scans the journal once for all of its steps, and goes from
 // each store straight to the next.
-use journal::Scan;
 use journal::journal as sections;
+use layout::MOST_SECTIONS;
 use model::Advanced;
 use model::Done;
 use model::Phase;
@@ -21,7 +21,7 @@ ghost use lib.ListN.{length};
 ghost use Rattle.model.specs.Layout.{needed};
 ghost use Rattle.model.specs.State.{volumeLoanOk, stateOk, stagingOk};
 ghost use Rattle.model.specs.Advance.{storesIn, advanceFrom, advanceOf};
-ghost use Rattle.journal.specs.Scan.{scanOf};
+ghost use Rattle.journal.specs.Replay.{idsOf};
 ghost use Rattle.volume.specs.Results.{advanced, stepAdded};
 
 // Nothing was done, and nothing is said.
@@ -86,34 +86,55 @@ fn steps(before: Advanced, v: &mut [u8], st: &mut [u8], n: usize) -> Advanced
     last
 }
 
-// The steps of a recovery on a journal that has been scanned, from its store k on: at most n, and none that is refused.
-fn replay_from(before: Advanced, v: &mut [u8], found: Scan, k: usize, n: usize) -> Advanced
-    requires { ⌜ (before .stores ≡ 0) × (stateOk (before .state) ≡ true) × (volumeLoanOk (now v) && leb (needed (before .state .layout) * 512) (length (now v)) ≡ true) × (before .state .phase ≡ Phase.Recovering k) × (found ≡ scanOf (before .state .layout) (now v)) × (k < found .stores .total) ⌝ }
+// i steps, of which each stored a sector and none said acknowledged; the last handed back `stepped`.
+fn stored_last(before: Advanced, i: usize, stepped: Stepped) -> Advanced
+    ensures { λ r. ⌜ r ≡ record { answer = stepped .answer; stores = i; acknowledged = before .acknowledged; state = stepped .state } ⌝ }
+{
+    let answer = stepped.answer;
+    let state = stepped.state;
+    Advanced {
+        answer: answer,
+        stores: i,
+        acknowledged: before.acknowledged,
+        state: state,
+    }
+}
+
+// The steps of a recovery on a journal that has been scanned, from its store k on: at most n, and none that is refused. Between two of them nothing is
+// kept but the store that comes next and the sector that was stored last.
+fn replay_from(
+    before: Advanced,
+    v: &mut [u8],
+    ids: &[u64; MOST_SECTIONS],
+    k: usize,
+    n: usize,
+) -> Advanced
+    requires { ⌜ (before .stores ≡ 0) × (stateOk (before .state) ≡ true) × (volumeLoanOk (now v) && leb (needed (before .state .layout) * 512) (length (now v)) ≡ true) × (before .state .phase ≡ Phase.Recovering k) × (now ids ≡ idsOf (before .state .layout) (now v)) ⌝ }
     ensures { λ r. ⌜ ((st : List ℕ) → stagingOk (before .state .layout) st ≡ true → advanced r (now (v .exit)) st ≡ advanceFrom (r .stores) (advanced before (now (v .entry)) st)) × (r .stores ≤ n) ⌝ }
 {
     let s = before.state;
     let g = s.layout;
-    let all = found.stores;
-    let total = all.total;
-    let mut last = before;
-    let mut x = sections::locate(found, v, g, k);
+    let mut x = sections::locate(ids, v, g, k);
+    let mut at = 0;
     let mut i = 0;
     while i < n {
-        let stepped = recovery::recover_step(last.state, v, k + i, total, x);
-        let answer = stepped.answer;
-        if stores_in(answer) == 0 {
-            return last;
+        if x.section == g.sections {
+            break;
         }
-        let next = one_more(last, stepped);
-        last = next;
-        if k + i + 1 == total {
-            return last;
+        let sector = recovery::sector_of(v, g, x);
+        if g.provided as u64 <= sector {
+            break;
         }
-        let y = sections::next_location(found, v, g, k + i, x);
-        x = y;
+        at = recovery::store_replayed(v, g, x, sector as usize);
+        let next = sections::next_location(ids, v, g, x);
+        x = next;
         i += 1;
     }
-    last
+    if i == 0 {
+        return before;
+    }
+    let more = x.section < g.sections;
+    stored_last(before, i, recovery::replayed(s, at, k + i, more))
 }
 
 // The same on a journal that is yet to be scanned.
@@ -132,13 +153,9 @@ fn recover(before: Advanced, v: &mut [u8], st: &[u8], k: usize, n: usize) -> Adv
     if !state::staging_ok(g, st) {
         return before;
     }
-    let found = sections::scan(v, g);
-    let all = found.stores;
-    let total = all.total;
-    if total <= k {
-        return before;
-    }
-    replay_from(before, v, found, k, n)
+    let mut ids = [0u64; MOST_SECTIONS];
+    sections::scan(v, g, &mut ids);
+    replay_from(before, v, &ids, k, n)
 }
 
 // Makes n steps.

@@ -1,5 +1,5 @@
-// The volume's calls. Advance is here; format, query and open, write and flush, read, and step are passed on from the crates that have them, with the
-// bytes of the sector that a write or a read is lent. Document 01, "Working a volume".
+// The volume's calls. Advance is here; format, query and open, write and flush, read, step and next_store are passed on from the crates that have them,
+// with the bytes of the sector that a write or a read is lent. Document 01, "Working a volume".
 //
 // Each call takes any volume, staging, sector, parameter or state, and gives exactly what the definition of its name in the model's specs gives, with
 // document 01's tag: answer, state and every lent byte afterwards. No call has a `requires`.
@@ -12,4 +12,5 @@ pub use volume_format::format;
 pub use volume_open::open;
 pub use volume_open::query;
 pub use volume_read::read;
+pub use volume_step::next_store;
 pub use volume_step::step;

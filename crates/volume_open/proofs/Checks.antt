@@ -8,7 +8,7 @@ use native.Mathlib.Decide.{decLt}
 use native.Mathlib.Numerals.{add-one}
 use native.Mathlib.Omega.{arith}
 use lib.Dec.{leb}
-use lib.ListN.{length, take, drop, getD, drop-of-length-le}
+use lib.ListN.{length, take}
 use lib.Seq.{take-all}
 use borrow.Author.Tests.{eq-eqb, ne-eqb, le-leb, lt-leb}
 use Rattle.octets.specs.Choice.{pick}
@@ -19,11 +19,13 @@ use Rattle.model.specs.declared.Layout.{Layout}
 use Rattle.model.specs.declared.Refusal.{Refusal}
 use Rattle.model.specs.declared.Refusal.the-variants.{JournalRange, JournalTagMismatch}
 use Rattle.model.specs.Section.{Entry, unused, collect}
-use Rattle.model.specs.Journal.{sectionOf, Replayed, usedEntry, usedOf}
+use Rattle.model.specs.Journal.{sectionOf, dueIds, Found, ordered, Replayed, usedEntry, usedOf, replayIn}
+use Rattle.model.specs.Layout.{layoutOk}
 use Rattle.model.specs.Tag.{Tag, tagOf}
 use Rattle.model.specs.State.{Verdict, passed, refused}
 use Rattle.model.specs.Open.{entriesVerdict}
-use Rattle.journal.proofs.Lookups.{replayOf, replay-next}
+use Rattle.journal.specs.Replay.{laterIds, firstOf, orderFrom}
+use Rattle.journal.proofs.Walks.{next-of, entries-from, none-from}
 use Rattle.volume_open.specs.Results.{checkOf}
 use Rattle.volume_open.specs.declared.open.Check.{Check}
 use Rattle.volume_open.specs.declared.open.Check.the-variants.{Passed, Refused}
@@ -116,28 +118,27 @@ module _ (tag : Tag) (g : Layout) where
     pub entries-stop : (x : Refusal) → r ≡ Refused x → (n : ℕ) → i < n → r ≡ checkOf (verdictOf (collect n f))
     entries-stop x e n l = e ∙ ap checkOf (sym (refused-of x e n l))
 
-  -- ---- the sections of the replay: what is left from section i on
+  -- ---- the sections of the replay: what is left from section k on
 
-  module _ (v ks : List ℕ) (w : Verdict) (i : ℕ) (left : w ≡ verdictOf (replayOf g v (drop i ks))) where
-    pub sections-end : length ks ≤ i → Passed ≡ checkOf w
-    sections-end l = sym (ap checkOf (left ∙ ap (λ (x : List ℕ). verdictOf (replayOf g v x)) (drop-of-length-le ks {i = i} l)))
+  module _ (v : List ℕ) (ok : layoutOk g ≡ true) (w : Verdict) (k : ℕ) (left : w ≡ verdictOf (replayIn g v (orderFrom (dueIds g v) (g .sections) k))) where
+    pub sections-end : g .sections ≤ k → Passed ≡ checkOf w
+    sections-end l = sym (ap checkOf (left ∙ ap (λ (L : List Found). verdictOf (replayIn g v L)) (none-from g v ok k l)))
 
-    module _ (l : i < length ks) (k : ℕ) (at : k ≡ getD ks i 0) (sec : List ℕ) (is : sec ≡ sectionOf g v k) (r : Check)
-        (found : r ≡ checkOf (verdictOf (usedOf (g .width) k sec))) where
+    module _ (l : k < g .sections) (sec : List ℕ) (is : sec ≡ sectionOf g v k) (r : Check) (found : r ≡ checkOf (verdictOf (usedOf (g .width) k sec))) where
       abbrev here : List Replayed
-      here = usedOf (g .width) (getD ks i 0) (sectionOf g v (getD ks i 0))
+      here = usedOf (g .width) k (sectionOf g v k)
 
       found-here : r ≡ checkOf (verdictOf here)
-      found-here =
-          found ∙ ap (λ (x : List ℕ). checkOf (verdictOf (usedOf (g .width) k x))) is
-          ∙ ap (λ (n : ℕ). checkOf (verdictOf (usedOf (g .width) n (sectionOf g v n)))) at
+      found-here = found ∙ ap (λ (x : List ℕ). checkOf (verdictOf (usedOf (g .width) k x))) is
 
-      split : w ≡ verdictOf (here ++ replayOf g v (drop (i + 1) ks))
-      split = left ∙ ap verdictOf (replay-next g v ks i l)
-
-      pub sections-more : r ≡ Passed → w ≡ verdictOf (replayOf g v (drop (i + 1) ks))
-      sections-more e = split ∙ passed-append here (replayOf g v (drop (i + 1) ks)) (check-passed (verdictOf here) (sym found-here ∙ e))
+      pub sections-more : (n : ℕ) → ordered (g .sections) (laterIds (dueIds g v) (dueIds g v k) k) ≡ orderFrom (dueIds g v) (g .sections) n → r ≡ Passed
+          → w ≡ verdictOf (replayIn g v (orderFrom (dueIds g v) (g .sections) n))
+      sections-more n q e =
+          left ∙ ap verdictOf (entries-from g v ok k n l q)
+          ∙ passed-append here (replayIn g v (orderFrom (dueIds g v) (g .sections) n)) (check-passed (verdictOf here) (sym found-here ∙ e))
 
       pub sections-stop : (x : Refusal) → r ≡ Refused x → r ≡ checkOf w
       sections-stop x e =
-          e ∙ ap checkOf (sym (split ∙ refused-append here (replayOf g v (drop (i + 1) ks)) x (check-refused (verdictOf here) x (sym found-here ∙ e))))
+          let n : ℕ = firstOf (g .sections) (ordered (g .sections) (laterIds (dueIds g v) (dueIds g v k) k)) in
+          e ∙ ap checkOf (sym (left ∙ ap verdictOf (entries-from g v ok k n l (next-of g v ok k l))
+          ∙ refused-append here (replayIn g v (orderFrom (dueIds g v) (g .sections) n)) x (check-refused (verdictOf here) x (sym found-here ∙ e))))

@@ -1,8 +1,8 @@
 // Open: document 01, "Working a volume"; the model's specs/Open.antt. It checks every entry to be replayed before anything is changed, so that a
 // refused open leaves the staging loan as it was, and a replay stores no sector whose tag does not fit.
 use crate::query;
-use journal::Order;
 use journal::journal as sections;
+use layout::MOST_SECTIONS;
 use layout::SECTOR_SIZE;
 use model::Layout;
 use model::OpenAnswer;
@@ -26,7 +26,7 @@ ghost use Rattle.model.specs.Journal.{usedEntry, usedOf, replay};
 ghost use Rattle.model.specs.Tag.{tagOf};
 ghost use Rattle.model.specs.State.{passed};
 ghost use Rattle.model.specs.Open.{superblockRows, entriesVerdict, phaseFor, openWith, openOf};
-ghost use Rattle.journal.specs.Scan.{orderOf, dueSections};
+ghost use Rattle.journal.specs.Replay.{idsOf};
 ghost use Rattle.volume_open.specs.Results.{checkOf};
 
 // What the check of entries to be replayed found.
@@ -76,21 +76,18 @@ fn check_section(g: Layout, section: &[u8], k: usize) -> Check
 }
 
 // Whether every entry to be replayed can be, in replay order.
-fn check_replay(v: &[u8], g: Layout, order: Order) -> Check
-    requires { ⌜ (layoutOk g ≡ true) × (needed g * 512 ≤ length (now v)) × (order ≡ orderOf (dueSections g (now v))) ⌝ }
+fn check_replay(ids: &[u64; MOST_SECTIONS], v: &[u8], g: Layout) -> Check
+    requires { ⌜ (layoutOk g ≡ true) × (needed g * 512 ≤ length (now v)) × (now ids ≡ idsOf g (now v)) ⌝ }
     ensures { λ r. ⌜ r ≡ checkOf (entriesVerdict (tagOf (g .width)) g (replay g (now (v .entry)))) ⌝ }
 {
-    let due = order.sections;
-    let count = order.count;
-    let mut i = 0;
-    while i < count {
-        let k = due[i];
+    let mut k = sections::next_section(ids, g.sections, 0, 0);
+    while k < g.sections {
         let check = check_section(g, sections::section_of(v, g, k), k);
         match check {
             Check::Passed => {}
             Check::Refused(_) => return check,
         }
-        i += 1;
+        k = sections::next_section(ids, g.sections, ids[k], k);
     }
     Check::Passed
 }
@@ -114,8 +111,9 @@ fn open_journal(v: &[u8], st: &mut [u8], g: Layout) -> OpenAnswer
         return OpenAnswer::Refused(Refusal::Malformed);
     }
     let greatest = sections::greatest_id(v, g);
-    let found = sections::scan(v, g);
-    let misplaced = sections::first_misplaced(found, g);
+    let mut ids = [0u64; MOST_SECTIONS];
+    sections::scan(v, g, &mut ids);
+    let misplaced = sections::first_misplaced(&ids, g);
     let count = g.sections;
     if greatest == LAST_ID {
         return OpenAnswer::Refused(Refusal::Exhausted);
@@ -123,21 +121,20 @@ fn open_journal(v: &[u8], st: &mut [u8], g: Layout) -> OpenAnswer
     if misplaced < count {
         return OpenAnswer::Refused(Refusal::Misplaced(misplaced));
     }
-    let order = found.order;
-    let check = check_replay(v, g, order);
+    let check = check_replay(&ids, v, g);
     match check {
         Check::Passed => {}
         Check::Refused(refusal) => return OpenAnswer::Refused(refusal),
     }
     section::clear_section(st, g.width);
-    let stores = found.stores;
+    let stores = sections::count_stores(&ids, v, g);
     let opened = State {
         layout: g,
-        phase: phase_for(stores.total),
+        phase: phase_for(stores),
         count: 0,
         id: greatest + 1,
     };
-    OpenAnswer::Opened(opened, stores.total)
+    OpenAnswer::Opened(opened, stores)
 }
 
 // Checks volume and journal, makes the staging loan an empty batch, and gives the state and the number of stores that replay the journal. It stores

@@ -1,14 +1,51 @@
 -- What a step handed back and left in its loans, as the model's result.
 --
--- Leaves v o r v′ st′ : a step on the volume v handed back r and left the volume v′ and the staging loan st′, as its result o says
-use Prim.Native.Nat.{ℕ}
+-- recovered s at k more  : what a step of a recovery hands back that stored sector `at`; `more` says whether there is a store k, the next
+-- Leaves v o r v′ st′    : a step on the volume v handed back r and left the volume v′ and the staging loan st′, as its result o says
+-- Fills out o r out′ st′ : a call that leaves the store to be made handed back r, and left out′ in the loan for the content, which held out, and the
+--                          staging loan st′, as its result o says
+-- storedBy v a c         : the volume v with the content c stored at the sector that the answer a names, if it names one
+-- Inside v a             : that sector, if there is one, lies in the volume v
+use Prim.Native.Nat.{ℕ, _+_, _*_, _≤_}
+use mathlib.Core.Bool.{Bool}
 use mathlib.Core.List.{List}
 use mathlib.Core.Path.{_≡_}
-use Rattle.model.specs.Store.{afterEffect}
+use lib.ListN.{length}
+use Rattle.octets.specs.Choice.{pick}
+use Rattle.octets.specs.Sectors.{sectorSize, putSector}
+use Rattle.model.specs.Flush.{inPhase}
+use Rattle.model.specs.Store.{afterEffect, contentOf}
 use Rattle.model.specs.Step.{StepResult}
+use Rattle.model.specs.declared.Done.the-variants.{Idle, Stored}
+use Rattle.model.specs.declared.Phase.the-variants as phases
+use Rattle.model.specs.declared.Says.the-variants.{Nothing, Filling}
+use Rattle.model.specs.declared.State.{State}
+use Rattle.model.specs.declared.StepAnswer.{StepAnswer}
+use Rattle.model.specs.declared.StepAnswer.the-variants as answers
 use Rattle.model.specs.declared.Stepped.{Stepped}
+
+abbrev pub recovered : State → ℕ → ℕ → Bool → Stepped
+recovered s at k more =
+    pick more
+    (record { answer = answers.Stepped (Stored at) Nothing; state = inPhase s (phases.Recovering k) })
+    (record { answer = answers.Stepped (Stored at) Filling; state = record { layout = s .layout; phase = phases.Filling; count = 0; id = s .id } })
 
 pub record Leaves (v : List ℕ) (o : StepResult) (r : Stepped) (v′ st′ : List ℕ) : Type 0 where
   pub returned : r ≡ record { answer = o .answer; state = o .state }
   pub volume : v′ ≡ afterEffect v (o .effect)
   pub staging : st′ ≡ o .staging
+
+pub record Fills (out : List ℕ) (o : StepResult) (r : Stepped) (out′ st′ : List ℕ) : Type 0 where
+  pub returned : r ≡ record { answer = o .answer; state = o .state }
+  pub content : out′ ≡ contentOf out (o .effect)
+  pub staging : st′ ≡ o .staging
+
+abbrev pub storedBy : List ℕ → StepAnswer → List ℕ → List ℕ
+storedBy v (answers.Stepped Idle x) c = v
+storedBy v (answers.Stepped (Stored at) x) c = putSector v at c
+storedBy v (answers.Refused r) c = v
+
+abbrev pub Inside : List ℕ → StepAnswer → Type 0
+Inside v (answers.Stepped Idle x) = Unit {0}
+Inside v (answers.Stepped (Stored at) x) = (at + 1) * sectorSize ≤ length v
+Inside v (answers.Refused r) = Unit {0}

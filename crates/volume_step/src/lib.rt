@@ -1,7 +1,9 @@
-// The call that makes one store: step. Document 01, "Working a volume".
+// The call that makes one store, step, and the call that leaves it to be made, next_store. Document 01, "Working a volume".
 //
-// It takes any state, volume and staging, and gives exactly what the definition of its name in the model's specs gives: answer, state and every lent
-// byte afterwards. It has no `requires`. Crate volume passes it on beside its own calls.
+// Each takes any state, volume and staging, and gives exactly what the definition of its name in the model's specs gives: answer, state and every lent
+// byte afterwards. They have no `requires`. Crate volume passes them on beside its own calls.
 mod answers;
+pub mod next_store;
 pub mod recovery;
 pub mod step;
+mod store;

@@ -1,7 +1,10 @@
-// A store of a recovery on a journal that has been scanned: document 01, "Working a volume", Step, "Recovering". It is for the crates of this
-// repository, which have the scan: so it has a `requires`, and crate volume does not pass it on.
+// A store of a recovery on a journal that has been scanned: document 01, "Working a volume", Step, "Recovering". These are functions for the crates of
+// this repository, which have the scan: so they have a `requires`, and crate volume does not pass them on.
 use crate::answers;
+use crate::store;
 use journal::journal as sections;
+use layout::SECTOR_SIZE;
+use model::Layout;
 use model::Phase;
 use model::Refusal;
 use model::State;
@@ -10,27 +13,66 @@ use section::Location;
 ghost use mathlib.Core.Bool.{true};
 ghost use mathlib.Core.List.{List};
 ghost use mathlib.Core.Path.{_≡_};
-ghost use Prim.Native.Nat.{ℕ, _<_};
+ghost use Prim.Native.Nat.{ℕ, _+_, _*_, _≤_, _<_};
+ghost use lib.Dec.{ltb};
+ghost use lib.ListN.{length};
+ghost use Rattle.model.specs.Layout.{entryCount, needed, layoutOk};
+ghost use Rattle.model.specs.Section.{entryOf};
 ghost use Rattle.model.specs.Journal.{sectionOf, replay};
-ghost use Rattle.model.specs.Store.{storesOf};
+ghost use Rattle.model.specs.Store.{made, homeStore, storesOf};
 ghost use Rattle.model.specs.State.{stateOk, volumeOk, stagingOk};
 ghost use Rattle.model.specs.Step.{placeAt, stepOf};
 ghost use Rattle.section.specs.Locations.{Locates};
-ghost use Rattle.volume_step.specs.Results.{Leaves};
+ghost use Rattle.volume_step.specs.Results.{recovered, Fills};
 
-// Makes store k of the `total` stores of a replay, which x names; by the last the volume is filling.
-pub fn recover_step(s: State, v: &mut [u8], k: usize, total: usize, x: Location) -> Stepped
-    requires { ⌜ (stateOk s ≡ true) × (volumeOk s (now v) ≡ true) × (s .phase ≡ Phase.Recovering k) × (total ≡ storesOf (s .layout) (replay (s .layout) (now v))) × Locates (s .layout) (sectionOf (s .layout) (now v) (x .section)) x (placeAt (s .layout) (now v) k) × (x .section < s .layout .sections) ⌝ }
-    ensures { λ r. ⌜ ((st : List ℕ) → stagingOk (s .layout) st ≡ true → Leaves (now (v .entry)) (stepOf s (now (v .entry)) st) r (now (v .exit)) st) ⌝ }
+// The logical sector of the entry that x names.
+pub fn sector_of(v: &[u8], g: Layout, x: Location) -> u64
+    requires { ⌜ (layoutOk g ≡ true) × (needed g * 512 ≤ length (now v)) × (x .section < g .sections) × (x .entry < entryCount (g .width)) ⌝ }
+    ensures { λ r. ⌜ r ≡ entryOf (g .width) (sectionOf g (now (v .entry)) (x .section)) (x .entry) .sector ⌝ }
+{
+    section::entry_sector(sections::section_of(v, g, x.section), g.width, x.entry)
+}
+
+// A store of the replay goes to sector `at`. Store k is next, if there are more; else the volume is filling.
+pub fn replayed(s: State, at: usize, k: usize, more: bool) -> Stepped
+    ensures { λ r. ⌜ r ≡ recovered s at k more ⌝ }
+{
+    if more {
+        return answers::stored(s, at, Phase::Recovering(k));
+    }
+    answers::filled(s, at)
+}
+
+// Store k of the replay, which x names: its content goes to `out`; `more` says whether there is one after it.
+pub(crate) fn next_store(
+    s: State,
+    v: &[u8],
+    k: usize,
+    x: Location,
+    more: bool,
+    out: &mut [u8],
+) -> Stepped
+    requires { ⌜ (stateOk s ≡ true) × (volumeOk s (now v) ≡ true) × (s .phase ≡ Phase.Recovering k) × (more ≡ ltb (k + 1) (storesOf (s .layout) (replay (s .layout) (now v)))) × Locates (s .layout) (sectionOf (s .layout) (now v) (x .section)) x (placeAt (s .layout) (now v) k) × (x .section < s .layout .sections) × (length (now out) ≡ 512) ⌝ }
+    ensures { λ r. ⌜ ((st : List ℕ) → stagingOk (s .layout) st ≡ true → Fills (now (out .entry)) (stepOf s (now (v .entry)) st) r (now (out .exit)) st) ⌝ }
 {
     let g = s.layout;
-    let sector = section::entry_sector(sections::section_of(v, g, x.section), g.width, x.entry);
+    let section = sections::section_of(v, g, x.section);
+    let sector = section::entry_sector(section, g.width, x.entry);
     if g.provided as u64 <= sector {
         return answers::refuse(s, Refusal::JournalRange(x.section, x.entry));
     }
-    let at = write_back::store_replayed(v, g, x, sector as usize);
-    if k + 1 < total {
-        return answers::stored(s, at, Phase::Recovering(k + 1));
-    }
-    answers::filled(s, at)
+    let at = stores::home_store(v, g, section, x.entry, sector as usize, x.store, out);
+    replayed(s, at, k + 1, more)
+}
+
+// Makes the store that x names, of an entry of the logical sector `sector`. Gives the sector stored.
+pub fn store_replayed(v: &mut [u8], g: Layout, x: Location, sector: usize) -> usize
+    requires { ⌜ (layoutOk g ≡ true) × (needed g * 512 ≤ length (now v)) × (x .section < g .sections) × (x .entry < entryCount (g .width)) × (sector ≡ entryOf (g .width) (sectionOf g (now v) (x .section)) (x .entry) .sector) × (sector < g .provided) × (x .store < 2) ⌝ }
+    ensures { λ r. ⌜ (r ≡ homeStore g (now (v .entry)) (entryOf (g .width) (sectionOf g (now (v .entry)) (x .section)) (x .entry)) (x .store) .at) × (now (v .exit) ≡ made (now (v .entry)) (homeStore g (now (v .entry)) (entryOf (g .width) (sectionOf g (now (v .entry)) (x .section)) (x .entry)) (x .store))) ⌝ }
+{
+    let mut content = [0u8; SECTOR_SIZE];
+    let section = sections::section_of(v, g, x.section);
+    let at = stores::home_store(v, g, section, x.entry, sector, x.store, &mut content);
+    store::put(v, at, &content);
+    at
 }

@@ -1,21 +1,22 @@
-use Prim.Native.Nat.{_+_, _-_, _≤_}
+use Prim.Native.Nat.{ℕ, _+_, _-_, _≤_}
 use mathlib.Core.Logic.{⊎-elim}
-use mathlib.Core.Path.{refl, sym, _∙_, _≡_}
+use mathlib.Core.Path.{refl, sym, ap, _∙_, _≡_}
 use native.Mathlib.Omega.{arith}
 use lib.ListN.{length}
 use borrow.Author.Needs.{needs}
 use Rattle.model.specs.Layout.{entryCount}
-use Rattle.section.specs.Locations.{storesBelow, missing, found}
+use Rattle.section.specs.Locations.{storesBelow, storeNumber, missing, found}
 use Rattle.layout.proofs.Sizes.{width-high}
-use Rattle.section.proofs.Counts.{count-used, count-unused, below-length, locates}
+use Rattle.section.proofs.Counts.{count-used, count-unused, locates}
 use Rattle.section.proofs.location_in.Statement.{statement}
 use Rattle.section.proofs.location_in.Tie as tie
 
 abbrev Inv-loop : tie.InvT-loop
-Inv-loop g section k from n count left₀ i₀ left i = (count ≡ entryCount (g .width)) × (count ≤ 248) × (left + length (storesBelow g k section i) ≡ length (storesBelow g k section from) + n)
+Inv-loop g section from count left₀ i₀ left i =
+    (count ≡ entryCount (g .width)) × (count ≤ 248) × (i ≤ count) × (length (storesBelow g (from .section) section i) + left ≡ storeNumber g section from)
 
 abbrev μ-loop : tie.MeasureT-loop
-μ-loop g section k from n count left₀ i₀ left i = count - i
+μ-loop g section from count left₀ i₀ left i = count - i
 
 entry-count-requires : tie.Need-entry-count-requires Inv-loop μ-loop
 entry-count-requires c κs =
@@ -23,7 +24,7 @@ entry-count-requires c κs =
     width-high (start .args .g) (start .pre .0)
 
 loop-holds : tie.Need-loop-holds Inv-loop μ-loop
-loop-holds c = (c .entry-count .ensures .0, c .entry-count .ensures .1, omega arith)
+loop-holds c = (c .entry-count .ensures .0, c .entry-count .ensures .1, omega (arith, c .before .before .pre .2, c .entry-count .ensures .0), refl)
 
 entry-sector-requires : tie.Need-entry-sector-requires Inv-loop μ-loop
 entry-sector-requires c κs =
@@ -34,9 +35,9 @@ returns : tie.Need-returns Inv-loop μ-loop
 returns c =
     let turn = c .before .before .before .before .loop in
     let start = c .before .before .before .before .before .before .before in
-    let here = locates (start .args .g) (start .args .section .now) (record { section = start .args .k; entry = turn .i; store = turn .left }) (omega arith)
+    let here = locates (start .args .g) (start .args .section .now) (record { section = start .args .from .section; entry = turn .i; store = turn .left }) (omega arith)
     (λ q. c .before .if1 .taken (c .before .before .entry-sector .ensures ∙ q)) (omega arith) in
-    (found here (omega (arith, turn .inv .2)), refl)
+    (found here (turn .inv .3), refl)
 
 loop-again : tie.Need-loop-again Inv-loop μ-loop
 loop-again c =
@@ -48,12 +49,14 @@ loop-again c =
     (λ w. (
       omega arith,
       omega arith,
-      omega (arith, w .1 .left, w .2, turn .inv .2, count-used g (start .args .k) section (turn .i) (λ q. w .0 .taken (c .before .entry-sector .ensures ∙ q))),
+      omega arith,
+      omega (arith, w .1 .left, w .2, turn .inv .3, count-used g (start .args .from .section) section (turn .i) (λ q. w .0 .taken (c .before .entry-sector .ensures ∙ q))),
     ))
     (λ w. (
       omega arith,
       omega arith,
-      omega (arith, w .1, turn .inv .2, count-unused g (start .args .k) section (turn .i) (sym (c .before .entry-sector .ensures) ∙ w .0 .left)),
+      omega arith,
+      omega (arith, w .1, turn .inv .3, count-unused g (start .args .from .section) section (turn .i) (sym (c .before .entry-sector .ensures) ∙ w .0 .left)),
     ))
     (c .if1 .came)
 
@@ -62,8 +65,9 @@ returns-2 c =
     let turn = c .before .loop in
     let start = c .before .before .before .before in
     let g = start .args .g in
-    let all = below-length g (start .args .k) (start .args .section .now) (entryCount (g .width)) (turn .i) (omega arith) in
-    (missing (turn .inv .0) (omega (arith, turn .inv .2)), refl)
+    let all : turn .i ≡ entryCount (g .width) = omega (arith, turn .inv .0, turn .inv .2, c .loop-test .left) in
+    let stores = ap (λ (i : ℕ). length (storesBelow g (start .args .from .section) (start .args .section .now) i)) all in
+    (missing (turn .inv .0) (omega (arith, stores, turn .inv .3)), refl)
 
 pub location-in-spec : {M : Type 1} → statement M
 location-in-spec =

@@ -1,77 +1,72 @@
-use Prim.Native.Nat.{_-_, _≤_, _<_}
-use mathlib.Core.Path.{ap, _≡_}
+use Prim.Native.Nat.{_≤_, _<_}
+use mathlib.Core.Path.{_≡_, ap}
 use native.Mathlib.Omega.{arith}
-use lib.ListN.{length, drop}
+use lib.ListN.{length}
 use borrow.Author.Needs.{needs}
-use Rattle.model.specs.Journal.{replay}
+use Rattle.model.specs.Journal.{dueIds, replayIn, replay}
 use Rattle.model.specs.Tag.{tagOf}
-use Rattle.journal.specs.Scan.{padded, dueSections}
-use Rattle.journal.specs.declared.Order.{Order}
-use Rattle.journal.proofs.Lookups.{length-due, getD-order, replayOf, replay-due}
+use Rattle.journal.specs.Replay.{orderFrom}
+use Rattle.journal.proofs.Walks.{next-due, next-behind, from-first, fewer-from}
 use Rattle.layout.proofs.Sizes.{sections-high}
 use Rattle.volume_open.proofs.Checks.{verdictOf, sections-end, sections-more, sections-stop}
 use Rattle.volume_open.proofs.open.check_replay.Statement.{statement}
 use Rattle.volume_open.proofs.open.check_replay.Tie as tie
 
 abbrev Inv-loop : tie.InvT-loop
-Inv-loop v g due count i₀ i = (due ≡ padded (dueSections g v)) × (count ≡ length (dueSections g v)) × (count ≤ 64) × (i ≤ count)
-    × (verdictOf (tagOf (g .width)) g (replay g v) ≡ verdictOf (tagOf (g .width)) g (replayOf g v (drop i (dueSections g v))))
+Inv-loop ids v g k₀ k =
+    (k ≤ g .sections) × (g .sections ≤ 64)
+    × (verdictOf (tagOf (g .width)) g (replay g v) ≡ verdictOf (tagOf (g .width)) g (replayIn g v (orderFrom (dueIds g v) (g .sections) k)))
 
 abbrev μ-loop : tie.MeasureT-loop
-μ-loop v g due count i₀ i = count - i
+μ-loop ids v g k₀ k = length (orderFrom (dueIds g v) (g .sections) k)
+
+next-section-requires : tie.Need-next-section-requires Inv-loop μ-loop
+next-section-requires c κs = (sections-high (c .before .args .g) (c .before .pre .0), omega arith)
 
 loop-holds : tie.Need-loop-holds Inv-loop μ-loop
 loop-holds c =
-    let a = c .before .before .args in
-    let g = a .g in
-    let v = a .v .now in
-    let count : a .order .count ≡ length (dueSections g v) = ap (λ (x : Order). x .count) (c .before .before .pre .2) in (
-      ap (λ (x : Order). x .sections) (c .before .before .pre .2),
-      count,
-      omega (arith, length-due g v, sections-high g (c .before .before .pre .0)),
-      omega arith,
-      ap (verdictOf (tagOf (g .width)) g) (replay-due g v),
-    )
+    let g = c .before .before .args .g in
+    let v = c .before .before .args .v .now in
+    let first = next-due g v (c .before .before .pre .0) (c .before .before .args .ids .now) (c .before .before .pre .2) 0 0 (c .next-section .result) (omega arith) (c .next-section .ensures) in
+    (first .1, sections-high g (c .before .before .pre .0), ap (verdictOf (tagOf (g .width)) g) (from-first g v (c .before .before .pre .0) (c .next-section .result) (first .0)))
 
 section-of-requires : tie.Need-section-of-requires Inv-loop μ-loop
-section-of-requires c κs =
-    let a = c .before .before .before .before .args in
-    let turn = c .before .loop in
-    (c .before .before .before .before .pre .0, c .before .before .before .before .pre .1, getD-order (a .g) (a .v .now) (turn .i) (omega arith) _ (turn .inv .0) .1)
+section-of-requires c κs = (c .before .before .before .before .before .pre .0, c .before .before .before .before .before .pre .1, omega (arith, c .if1 .taken))
 
 check-section-requires : tie.Need-check-section-requires Inv-loop μ-loop
-check-section-requires c κs = (c .before .before .before .before .before .pre .0, c .section-of .ensures .1)
+check-section-requires c κs = (c .before .before .before .before .before .before .pre .0, c .section-of .ensures .1)
 
 returns : tie.Need-returns Inv-loop μ-loop
 returns c =
-    let a = c .before .before .before .before .before .before .before .before .args in
-    let g = a .g in
-    let v = a .v .now in
-    let turn = c .before .before .before .before .before .loop in
-    let l : turn .i < length (dueSections g v) = omega arith in
-    sections-stop (tagOf (g .width)) g v (dueSections g v) _ (turn .i) (turn .inv .4) l _ (getD-order g v (turn .i) l _ (turn .inv .0) .0)
+    let g = c .before .before .before .before .before .before .before .before .before .args .g in
+    sections-stop (tagOf (g .width)) g (c .before .before .before .before .before .before .before .before .before .args .v .now) (c .before .before .before .before .before .before .before .before .before .pre .0) _ (c .before .before .before .before .before .before .loop .k) (c .before .before .before .before .before .before .loop .inv .2) (omega (arith, c .before .before .before .before .if1 .taken))
     (c .before .before .before .section-of .result .now) (c .before .before .before .section-of .ensures .0) (c .before .before .check-section .result) (c .before .before .check-section .ensures) _ (c .enum-told2 .given .1)
+
+next-section-requires-2 : tie.Need-next-section-requires-2 Inv-loop μ-loop
+next-section-requires-2 c κs = (c .before .before .before .before .before .before .before .loop .inv .1, omega (arith, c .before .before .before .before .before .if1 .taken))
+
+loop-less : tie.Need-loop-less Inv-loop μ-loop
+loop-less c =
+    let g = c .before .before .before .before .before .before .before .before .before .before .before .args .g in
+    let v = c .before .before .before .before .before .before .before .before .before .before .before .args .v .now in
+    let l : c .before .before .before .before .before .before .before .before .loop .k < g .sections = omega (arith, c .before .before .before .before .before .before .if1 .taken) in
+    let next = next-behind g v (c .before .before .before .before .before .before .before .before .before .before .before .pre .0) (c .before .before .before .before .before .before .before .before .before .before .before .args .ids .now) (c .before .before .before .before .before .before .before .before .before .before .before .pre .2) (c .before .before .before .before .before .before .before .before .loop .k) (c .next-section2 .result) l (c .next-section2 .ensures) in
+    omega (arith, fewer-from g v (c .before .before .before .before .before .before .before .before .before .before .before .pre .0) (c .before .before .before .before .before .before .before .before .loop .k) (c .next-section2 .result) l (next .0))
 
 loop-again : tie.Need-loop-again Inv-loop μ-loop
 loop-again c =
-    let a = c .before .before .before .before .before .before .before .before .args in
-    let g = a .g in
-    let v = a .v .now in
-    let turn = c .before .before .before .before .before .loop in
-    let l : turn .i < length (dueSections g v) = omega arith in (
-      turn .inv .0,
-      turn .inv .1,
-      turn .inv .2,
-      omega arith,
-      sections-more (tagOf (g .width)) g v (dueSections g v) _ (turn .i) (turn .inv .4) l _ (getD-order g v (turn .i) l _ (turn .inv .0) .0)
-          (c .before .before .before .section-of .result .now) (c .before .before .before .section-of .ensures .0) (c .before .before .check-section .result) (c .before .before .check-section .ensures) (c .enum-told .given .1),
+    let g = c .before .before .before .before .before .before .before .before .before .before .before .args .g in
+    let v = c .before .before .before .before .before .before .before .before .before .before .before .args .v .now in
+    let l : c .before .before .before .before .before .before .before .before .loop .k < g .sections = omega (arith, c .before .before .before .before .before .before .if1 .taken) in
+    let next = next-behind g v (c .before .before .before .before .before .before .before .before .before .before .before .pre .0) (c .before .before .before .before .before .before .before .before .before .before .before .args .ids .now) (c .before .before .before .before .before .before .before .before .before .before .before .pre .2) (c .before .before .before .before .before .before .before .before .loop .k) (c .next-section2 .result) l (c .next-section2 .ensures) in (
+      next .1,
+      c .before .before .before .before .before .before .before .before .loop .inv .1,
+      sections-more (tagOf (g .width)) g v (c .before .before .before .before .before .before .before .before .before .before .before .pre .0) _ (c .before .before .before .before .before .before .before .before .loop .k) (c .before .before .before .before .before .before .before .before .loop .inv .2) l
+          (c .before .before .before .before .before .section-of .result .now) (c .before .before .before .before .before .section-of .ensures .0) (c .before .before .before .before .check-section .result) (c .before .before .before .before .check-section .ensures) (c .next-section2 .result) (next .0) (c .before .before .enum-told .given .1),
     )
 
 returns-2 : tie.Need-returns-2 Inv-loop μ-loop
-returns-2 c =
-    let a = c .before .before .before .before .args in
-    let turn = c .before .loop in
-    sections-end (tagOf (a .g .width)) (a .g) (a .v .now) (dueSections (a .g) (a .v .now)) _ (turn .i) (turn .inv .4) (omega arith)
+returns-2 c = sections-end (tagOf (c .before .before .before .before .before .args .g .width)) (c .before .before .before .before .before .args .g) (c .before .before .before .before .before .args .v .now) (c .before .before .before .before .before .pre .0) _ (c .before .before .loop .k) (c .before .before .loop .inv .2) (omega (arith, c .if1 .left))
 
 pub check-replay-spec : {M : Type 1} → statement M
 check-replay-spec =
@@ -79,9 +74,8 @@ check-replay-spec =
     (tie.spec
     Inv-loop
     μ-loop
+    next-section-requires
     loop-holds
-    (λ c. search needs)
-    (λ c. search needs)
     section-of-requires
     check-section-requires
     (λ c. search needs)
@@ -89,5 +83,7 @@ check-replay-spec =
     returns
     (λ c. search needs)
     (λ c. search needs)
+    next-section-requires-2
+    loop-less
     loop-again
     returns-2)

@@ -1,0 +1,65 @@
+// The stores of a step: document 01, "Working a volume", Step; the model's specs/Store.antt and specs/Step.antt. Each function fills `out`, which is as
+// long as a sector, with what a sector of the volume is to hold, and gives that sector's number. None of them stores it.
+//
+// These are functions for the crates of this repository, which test the state, the loans and the entry's sector first: so each has a `requires`, and
+// every caller shows it.
+use layout::SECTOR_SIZE;
+use model::Layout;
+use model::State;
+use section::ID_AT;
+use section::NUMBER_SIZE;
+ghost use mathlib.Core.Bool.{true};
+ghost use mathlib.Core.List.{List};
+ghost use mathlib.Core.Path.{_≡_};
+ghost use Prim.Native.Nat.{ℕ, _*_, _≤_, _<_};
+ghost use lib.ListN.{length};
+ghost use Rattle.octets.specs.Parts.{patch};
+ghost use Rattle.octets.specs.Sectors.{sectorAt};
+ghost use Rattle.model.specs.Layout.{entryCount, sectionSize, tagSector, tagOffset, needed, layoutOk};
+ghost use Rattle.model.specs.Section.{entryOf};
+ghost use Rattle.model.specs.Store.{homeStore};
+ghost use Rattle.model.specs.Step.{commitStore};
+
+// Sector j of the section that a batch is committed to: staging's, with the id put in.
+pub fn commit_store(s: State, st: &[u8], j: usize, out: &mut [u8]) -> usize
+    requires { ⌜ (layoutOk (s .layout) ≡ true) × (length (now st) ≡ sectionSize (s .layout .width) * 512) × (j < sectionSize (s .layout .width)) × (0 < s .id) × (length (now out) ≡ 512) ⌝ }
+    ensures { λ r. ⌜ ((v : List ℕ) → record { at = r; content = now (out .exit) } ≡ commitStore s v (now (st .entry)) j) ⌝ }
+{
+    let g = s.layout;
+    octets::copy_at(out, 0, st, j * SECTOR_SIZE, ID_AT);
+    octets::put_number(out, ID_AT, NUMBER_SIZE, s.id);
+    layout::section_at(g, journal::journal::section_for(g, s.id)) + j
+}
+
+// The sector with the tag of a logical sector: the volume's, with only that tag replaced, so that the neighbours' tags stay.
+fn tag_store(v: &[u8], g: Layout, sector: usize, tag: &[u8], out: &mut [u8]) -> usize
+    requires { ⌜ (layoutOk g ≡ true) × (needed g * 512 ≤ length (now v)) × (sector < g .provided) × (length (now tag) ≡ g .width) × (length (now out) ≡ 512) ⌝ }
+    ensures { λ r. ⌜ (r ≡ tagSector g sector) × (now (out .exit) ≡ patch (sectorAt (now (v .entry)) (tagSector g sector)) (tagOffset g sector) (now (tag .entry))) ⌝ }
+{
+    let byte = layout::tag_byte(g, sector);
+    let at = byte / SECTOR_SIZE;
+    octets::copy_at(out, 0, v, at * SECTOR_SIZE, SECTOR_SIZE);
+    octets::copy_at(out, byte % SECTOR_SIZE, tag, 0, g.width);
+    at
+}
+
+// Store h of those that bring entry i of a section home, be it staging or a section of the journal: its data sector, then the sector with its tag.
+pub fn home_store(
+    v: &[u8],
+    g: Layout,
+    section: &[u8],
+    i: usize,
+    sector: usize,
+    h: usize,
+    out: &mut [u8],
+) -> usize
+    requires { ⌜ (layoutOk g ≡ true) × (needed g * 512 ≤ length (now v)) × (length (now section) ≡ sectionSize (g .width) * 512) × (i < entryCount (g .width)) × (sector ≡ entryOf (g .width) (now section) i .sector) × (sector < g .provided) × (h < 2) × (length (now out) ≡ 512) ⌝ }
+    ensures { λ r. ⌜ record { at = r; content = now (out .exit) } ≡ homeStore g (now (v .entry)) (entryOf (g .width) (now (section .entry)) i) h ⌝ }
+{
+    if h == 0 {
+        section::entry_data(section, g.width, i, out);
+        return layout::data_at(g, sector);
+    }
+    let tag = section::entry_tag(section, g.width, i);
+    tag_store(v, g, sector, tag, out)
+}

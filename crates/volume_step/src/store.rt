@@ -1,0 +1,31 @@
+// The store of a step, made.
+use layout::SECTOR_SIZE;
+use model::Done;
+use model::StepAnswer;
+ghost use mathlib.Core.Path.{_≡_};
+ghost use Prim.Native.Nat.{_+_, _*_, _≤_};
+ghost use lib.ListN.{length};
+ghost use Rattle.octets.specs.Sectors.{putSector};
+ghost use Rattle.volume_step.specs.Results.{storedBy, Inside};
+
+// Stores a sector. No other line of the library writes to a volume that has been formatted.
+pub(crate) fn put(v: &mut [u8], at: usize, content: &[u8; SECTOR_SIZE])
+    requires { ⌜ (at + 1) * 512 ≤ length (now v) ⌝ }
+    ensures { λ r. ⌜ now (v .exit) ≡ putSector (now (v .entry)) at (now (content .entry)) ⌝ }
+{
+    octets::copy_at(v, at * SECTOR_SIZE, content, 0, SECTOR_SIZE);
+}
+
+// Makes the store that a step's answer names.
+pub(crate) fn make(v: &mut [u8], answer: StepAnswer, content: &[u8; SECTOR_SIZE])
+    requires { ⌜ Inside (now v) answer ⌝ }
+    ensures { λ r. ⌜ now (v .exit) ≡ storedBy (now (v .entry)) answer (now (content .entry)) ⌝ }
+{
+    let StepAnswer::Stepped(done, _) = answer else {
+        return;
+    };
+    let Done::Stored(at) = done else {
+        return;
+    };
+    put(v, at, content);
+}
