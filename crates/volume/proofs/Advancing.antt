@@ -12,7 +12,7 @@ use lib.Seq.{length-take-le}
 use borrow.Author.Tests.{lt-ltb}
 use Rattle.octets.specs.Choice.{pick}
 use Rattle.octets.specs.Parts.{part}
-use Rattle.octets.specs.Sectors.{sectorAt}
+use Rattle.octets.specs.Sectors.{sectorAt, putSector}
 use Rattle.octets.proofs.Parts.{length-part}
 use Rattle.model.specs.declared.Advanced.{Advanced}
 use Rattle.model.specs.declared.Layout.{Layout}
@@ -43,7 +43,7 @@ use Rattle.layout.proofs.Sizes.{width-high, section-inside}
 use Rattle.volume_step.specs.Results.{Leaves, recovered}
 use Rattle.volume.specs.Results.{advanced, stepAdded}
 use Rattle.sound.proofs.Sound.{state-layout, fit-room, volume-below}
-use Rattle.volume_step.proofs.Making.{place-made}
+use Rattle.volume_step.proofs.Making.{home-room, home-put, place-made}
 
 -- ---- one step more
 
@@ -150,11 +150,29 @@ resultOf b k (suc i) at more =
 -- What holds between two steps of a recovery that began with b on the volume v₀, at store k: i stores were made, the last to sector `at`, and left the
 -- volume v; x is the next.
 pub record Underway (b : Advanced) (v₀ : List ℕ) (k : ℕ) (ids : List ℕ) (i at : ℕ) (x : Location) (v : List ℕ) : Type 0 where
+  pub none : b .stores ≡ 0
+  pub sound : stateOk (b .state) ≡ true
+  pub phase : b .state .phase ≡ Recovering k
   pub reach : (st : List ℕ) → stagingOk (b .state .layout) st ≡ true
       → advanced (resultOf b k i at (ltb (x .section) (b .state .layout .sections))) v st ≡ advanceFrom i (advanced b v₀ st)
   pub fit : volumeLoanOk v && leb (needed (b .state .layout) * 512) (length v) ≡ true
   pub scan : ids ≡ idsOf (b .state .layout) v
   pub next : x ≡ locationAt (b .state .layout) v (k + i)
+
+pub begins : (b : Advanced) (k : ℕ) (v₀ ids : List ℕ) → b .stores ≡ 0 → stateOk (b .state) ≡ true → b .state .phase ≡ Recovering k
+    → volumeLoanOk v₀ && leb (needed (b .state .layout) * 512) (length v₀) ≡ true → ids ≡ idsOf (b .state .layout) v₀
+    → (x : Location) → x ≡ locationAt (b .state .layout) v₀ k → (at : ℕ) → Underway b v₀ k ids 0 at x v₀
+unfolding advanceFrom
+begins b k v₀ ids none sound phase fit scan x e at =
+    record {
+      none = none;
+      sound = sound;
+      phase = phase;
+      reach = λ st q. refl;
+      fit = fit;
+      scan = scan;
+      next = e ∙ ap (locationAt (b .state .layout) v₀) {x = k} {y = k + 0} (omega arith);
+    }
 
 state-recovering : (s : State) → stateOk s ≡ true → (k j : ℕ) → s .phase ≡ Recovering k → stateOk (inPhase s (Recovering j)) ≡ true
 unfolding stateOk
@@ -162,100 +180,107 @@ state-recovering s sound k j q =
     ap (λ (p : Phase). layoutOk (s .layout) && (leb (s .count) (entryCount (s .layout .width)) && (not (eqb (s .id) 0) && placeOk (s .layout) (s .count) (s .id) p)))
     (sym q) ∙ sound
 
-module _ (b : Advanced) (none : b .stores ≡ 0) (sound : stateOk (b .state) ≡ true) (k : ℕ) (phase : b .state .phase ≡ Recovering k) (v₀ ids : List ℕ) where
+-- the state and the count that i steps leave, with more to come
+module _ (b : Advanced) (none : b .stores ≡ 0) (k : ℕ) (phase : b .state .phase ≡ Recovering k) (at : ℕ) where
+  state-after : (i : ℕ) → resultOf b k i at true .state ≡ inPhase (b .state) (Recovering (k + i))
+  state-after zero =
+      let same : k ≡ k + 0 = omega arith in
+      λ i. record { layout = b .state .layout; phase = (phase ∙ ap Recovering same) i; count = b .state .count; id = b .state .id }
+  state-after (suc i) = refl
+
+  stores-after : (i : ℕ) → resultOf b k i at true .stores ≡ i
+  stores-after zero = none
+  stores-after (suc i) = refl
+
+  acknowledged-after : (i : ℕ) → resultOf b k i at true .acknowledged ≡ b .acknowledged
+  acknowledged-after zero = refl
+  acknowledged-after (suc i) = refl
+
+  -- one step more
+  result-next : (i at′ : ℕ) (more : Bool) → resultOf b k (suc i) at′ more ≡ stepAdded (resultOf b k i at true) (recovered (b .state) at′ (k + suc i) more)
+  result-next i at′ more = go more
+    where
+      count : suc i ≡ resultOf b k i at true .stores + 1
+      count = omega (arith, stores-after i)
+
+      go : (more : Bool) → resultOf b k (suc i) at′ more ≡ stepAdded (resultOf b k i at true) (recovered (b .state) at′ (k + suc i) more)
+      go true = λ j. record {
+        answer = recovered (b .state) at′ (k + suc i) true .answer;
+        stores = count j;
+        acknowledged = sym (acknowledged-after i) j;
+        state = recovered (b .state) at′ (k + suc i) true .state;
+      }
+      go false = λ j. record {
+        answer = recovered (b .state) at′ (k + suc i) false .answer;
+        stores = count j;
+        acknowledged = sym (acknowledged-after i) j;
+        state = recovered (b .state) at′ (k + suc i) false .state;
+      }
+
+module _ {b : Advanced} {v₀ : List ℕ} {k : ℕ} {ids : List ℕ} {i at : ℕ} {x : Location} {v : List ℕ} (u : Underway b v₀ k ids i at x v) where
   abbrev g : Layout
   g = b .state .layout
 
   ok : layoutOk g ≡ true
-  ok = state-layout (b .state) sound
+  ok = state-layout (b .state) (u .sound)
 
-  pub begins : volumeLoanOk v₀ && leb (needed g * 512) (length v₀) ≡ true → ids ≡ idsOf g v₀ → (x : Location) → x ≡ locationAt g v₀ k → (at : ℕ) → Underway b v₀ k ids 0 at x v₀
-  unfolding advanceFrom
-  begins fit scan x e at = record { reach = λ st q. refl; fit = fit; scan = scan; next = e ∙ ap (locationAt g v₀) {x = k} {y = k + 0} (omega arith) }
+  pub ok-here : (layoutOk g ≡ true) × (needed g * 512 ≤ length v)
+  ok-here = (ok, fit-room (b .state) v (u .fit))
 
-  -- the state and the count that i steps leave, with more to come
-  module _ (at : ℕ) where
-    state-after : (i : ℕ) → resultOf b k i at true .state ≡ inPhase (b .state) (Recovering (k + i))
-    state-after zero =
-        let same : k ≡ k + 0 = omega arith in
-        λ i. record { layout = b .state .layout; phase = (phase ∙ ap Recovering same) i; count = b .state .count; id = b .state .id }
-    state-after (suc i) = refl
+  -- what next_location asks for
+  pub continues : (layoutOk g ≡ true) × (needed g * 512 ≤ length v) × (ids ≡ idsOf g v) × ((n : ℕ) × (x ≡ locationAt g v n))
+  continues = (ok, ok-here .1, u .scan, (k + i, u .next))
 
-    stores-after : (i : ℕ) → resultOf b k i at true .stores ≡ i
-    stores-after zero = none
-    stores-after (suc i) = refl
+  -- there is a store to be made
+  pub is-next : x .section ≢ g .sections → x .section < g .sections
+  is-next ne = omega (arith, counted-after g v ok (k + i) x (u .next) .0, ne)
 
-    acknowledged-after : (i : ℕ) → resultOf b k i at true .acknowledged ≡ b .acknowledged
-    acknowledged-after zero = refl
-    acknowledged-after (suc i) = refl
+  module _ (l : x .section < g .sections) where
+    abbrev here : State
+    here = inPhase (b .state) (Recovering (k + i))
 
-    -- one step more
-    result-next : (i at′ : ℕ) (more : Bool) → resultOf b k (suc i) at′ more ≡ stepAdded (resultOf b k i at true) (recovered (b .state) at′ (k + suc i) more)
-    result-next i at′ more = go more
-      where
-        count : suc i ≡ resultOf b k i at true .stores + 1
-        count = omega (arith, stores-after i)
+    abbrev at-hand : Entry
+    at-hand = entryOf (g .width) (sectionOf g v (x .section)) (x .entry)
 
-        go : (more : Bool) → resultOf b k (suc i) at′ more ≡ stepAdded (resultOf b k i at true) (recovered (b .state) at′ (k + suc i) more)
-        go true = λ j. record {
-          answer = recovered (b .state) at′ (k + suc i) true .answer;
-          stores = count j;
-          acknowledged = sym (acknowledged-after i) j;
-          state = recovered (b .state) at′ (k + suc i) true .state;
-        }
-        go false = λ j. record {
-          answer = recovered (b .state) at′ (k + suc i) false .answer;
-          stores = count j;
-          acknowledged = sym (acknowledged-after i) j;
-          state = recovered (b .state) at′ (k + suc i) false .state;
-        }
+    pub there : (k + i < storesOf g (replay g v)) × Locates g (sectionOf g v (x .section)) x (placeAt g v (k + i))
+    there = located g v ok (k + i) x (u .next) l
 
-  module _ (i at : ℕ) (x : Location) (v : List ℕ) (u : Underway b v₀ k ids i at x v) where
-    pub ok-here : (layoutOk g ≡ true) × (needed g * 512 ≤ length v)
-    ok-here = (ok, fit-room (b .state) v (u .fit))
+    pub low : k + i < 31744
+    low = omega (arith, there .0, replay-high g v ok)
 
-    pub high : x .section ≤ g .sections
-    high = counted-after g v ok (k + i) x (u .next) .0
+    pub half : x .store < 2
+    half = omega (arith, there .1 .store, home-two g at-hand)
 
-    module _ (l : x .section < g .sections) where
-      abbrev here : State
-      here = inPhase (b .state) (Recovering (k + i))
+    sound-here : stateOk here ≡ true
+    sound-here = state-recovering (b .state) (u .sound) k (k + i) (u .phase)
 
-      pub there : (k + i < storesOf g (replay g v)) × Locates g (sectionOf g v (x .section)) x (placeAt g v (k + i))
-      there = located g v ok (k + i) x (u .next) l
+    fits-here : volumeOk here v ≡ true
+    fits-here = volume-below here v (u .fit) (k + i) refl (there .0)
 
-      pub low : k + i < 31744
-      low = omega (arith, there .0, replay-high g v ok)
+    module _ (sector : ℕ) (es : sector ≡ at-hand .sector) (below : sector < g .provided) (at′ : ℕ) (content : List ℕ)
+        (is : record { at = at′; content = content } ≡ homeStore g v at-hand (x .store)) where
+      below-here : at-hand .sector < g .provided
+      below-here = omega (arith, es)
 
-      pub half : x .store < 2
-      half = omega (arith, there .1 .store, home-two g (entryOf (g .width) (sectionOf g v (x .section)) (x .entry)))
+      pub store-inside : (at′ + 1) * 512 ≤ length v
+      store-inside = home-room g ok v (ok-here .1) at-hand below-here (x .store) at′ content is
 
-      sound-here : stateOk here ≡ true
-      sound-here = state-recovering (b .state) sound k (k + i) phase
+      module _ (v′ : List ℕ) (put : v′ ≡ putSector v at′ content) where
+        home : (at′ ≡ homeStore g v at-hand (x .store) .at) × (v′ ≡ made v (homeStore g v at-hand (x .store)))
+        home = home-put g ok v (ok-here .1) at-hand below-here (x .store) at′ content is v′ put
 
-      fits-here : volumeOk here v ≡ true
-      fits-here = volume-below here v (u .fit) (k + i) refl (there .0)
-
-      module _ (sector : ℕ) (es : sector ≡ entryOf (g .width) (sectionOf g v (x .section)) (x .entry) .sector) (below : sector < g .provided) (at′ : ℕ) (v′ : List ℕ)
-          (home : (at′ ≡ homeStore g v (entryOf (g .width) (sectionOf g v (x .section)) (x .entry)) (x .store) .at)
-          × (v′ ≡ made v (homeStore g v (entryOf (g .width) (sectionOf g v (x .section)) (x .entry)) (x .store)))) where
         sized-same : length v ≡ length v′
-        sized-same = length-same g ok v (ok-here .1) x l (there .1 .entry) half (omega (arith, es)) v′ (home .1)
+        sized-same = length-same g ok v (ok-here .1) x l (there .1 .entry) half below-here v′ (home .1)
 
         same : (j : ℕ) → j < g .sections → sectionOf g v j ≡ sectionOf g v′ j
-        same = sections-same g ok v (ok-here .1) x l (there .1 .entry) half (omega (arith, es)) v′ (home .1)
+        same = sections-same g ok v (ok-here .1) x l (there .1 .entry) half below-here v′ (home .1)
 
-        -- what next_location asks for
-        pub continues : (layoutOk g ≡ true) × (needed g * 512 ≤ length v′) × (ids ≡ idsOf g v′) × ((n : ℕ) × (x ≡ locationAt g v′ n))
-        continues = (ok, omega (arith, ok-here .1, sized-same), u .scan ∙ ids-kept g v v′ same, (k + i, u .next ∙ location-kept g v v′ same (k + i)))
-
-        module _ (y : Location) (ey : (n : ℕ) → x ≡ locationAt g v′ n → y ≡ locationAt g v′ (n + 1)) where
+        module _ (y : Location) (ey : (n : ℕ) → x ≡ locationAt g v n → y ≡ locationAt g v (n + 1)) where
           next-is : y ≡ locationAt g v′ (k + suc i)
-          next-is = ey (k + i) (u .next ∙ location-kept g v v′ same (k + i)) ∙ ap (locationAt g v′) {x = k + i + 1} {y = k + suc i} (omega arith)
+          next-is = ey (k + i) (u .next) ∙ location-kept g v v′ same (k + i + 1) ∙ ap (locationAt g v′) {x = k + i + 1} {y = k + suc i} (omega arith)
 
           more-is : ltb (y .section) (g .sections) ≡ ltb (k + i + 1) (storesOf g (replay g v))
-          more-is =
-              is-there g v ok (k + i + 1) y (ey (k + i) (u .next ∙ location-kept g v v′ same (k + i)) ∙ sym (location-kept g v v′ same (k + i + 1)))
+          more-is = is-there g v ok (k + i + 1) y (ey (k + i) (u .next))
 
           makes : (st : List ℕ) → stagingOk g st ≡ true → Leaves v (stepOf here v st) (recovered (b .state) at′ (k + suc i) (ltb (y .section) (g .sections))) v′ st
           makes st q =
@@ -271,8 +296,8 @@ module _ (b : Advanced) (none : b .stores ≡ 0) (sound : stateOk (b .state) ≡
           reach-next st q =
               let last : Advanced = resultOf b k i at true in
               made-more last (resultOf b k (suc i) at′ (ltb (y .section) (g .sections))) (recovered (b .state) at′ (k + suc i) (ltb (y .section) (g .sections)))
-              (result-next at i at′ (ltb (y .section) (g .sections))) v st v′ st
-              (subst (λ (s : State). Leaves v (stepOf s v st) (recovered (b .state) at′ (k + suc i) (ltb (y .section) (g .sections))) v′ st) (sym (state-after at i)) (makes st q))
+              (result-next b (u .none) k (u .phase) at i at′ (ltb (y .section) (g .sections))) v st v′ st
+              (subst (λ (s : State). Leaves v (stepOf s v st) (recovered (b .state) at′ (k + suc i) (ltb (y .section) (g .sections))) v′ st) (sym (state-after b (u .none) k (u .phase) at i)) (makes st q))
               (advanced b v₀ st) i
               (ap (λ (m : Bool). advanced (resultOf b k i at m) v st) (sym (lt-ltb (x .section) (g .sections) l)) ∙ u .reach st q)
 
@@ -280,29 +305,32 @@ module _ (b : Advanced) (none : b .stores ≡ 0) (sound : stateOk (b .state) ≡
           again =
               let one-on : suc i ≡ i + 1 = omega arith in
               record {
+                none = u .none;
+                sound = u .sound;
+                phase = u .phase;
                 reach = λ st q. ap (λ (n : ℕ). advanced (resultOf b k n at′ (ltb (y .section) (g .sections))) v′ st) (sym one-on) ∙ reach-next st q;
                 fit = fit-next;
                 scan = u .scan ∙ ids-kept g v v′ same;
                 next = next-is ∙ ap (λ (n : ℕ). locationAt g v′ (k + n)) one-on;
               }
 
-    -- ---- what is handed back
+  -- ---- what is handed back
 
-    pub nothing-made : i ≡ 0 → (st : List ℕ) → stagingOk g st ≡ true → advanced b v st ≡ advanceFrom (b .stores) (advanced b v₀ st)
-    nothing-made z st q =
-        ap (λ (n : ℕ). advanced (resultOf b k n at (ltb (x .section) (g .sections))) v st) (sym z) ∙ u .reach st q
-        ∙ ap (λ (n : ℕ). advanceFrom n (advanced b v₀ st)) (z ∙ sym none)
+  pub nothing-made : i ≡ 0 → (st : List ℕ) → stagingOk g st ≡ true → advanced b v st ≡ advanceFrom (b .stores) (advanced b v₀ st)
+  nothing-made z st q =
+      ap (λ (n : ℕ). advanced (resultOf b k n at (ltb (x .section) (g .sections))) v st) (sym z) ∙ u .reach st q
+      ∙ ap (λ (n : ℕ). advanceFrom n (advanced b v₀ st)) (z ∙ sym (u .none))
 
-    pub steps-made : (r : Advanced) (o : Stepped) → r ≡ record { answer = o .answer; stores = i; acknowledged = b .acknowledged; state = o .state }
-        → o ≡ recovered (b .state) at (k + i) (ltb (x .section) (g .sections)) → i ≢ 0 → (st : List ℕ) → stagingOk g st ≡ true
-        → advanced r v st ≡ advanceFrom (r .stores) (advanced b v₀ st)
-    steps-made r o er eo nz st q =
-        ap (λ (a : Advanced). advanced a v st) er
-        ∙ ap (λ (o : Stepped). advanced (record { answer = o .answer; stores = i; acknowledged = b .acknowledged; state = o .state }) v st) eo
-        ∙ go i nz ∙ u .reach st q ∙ ap (λ (a : Advanced). advanceFrom (a .stores) (advanced b v₀ st)) (sym er)
-      where
-        go : (i : ℕ) → i ≢ 0
-            → advanced (record { answer = recovered (b .state) at (k + i) (ltb (x .section) (g .sections)) .answer; stores = i; acknowledged = b .acknowledged; state = recovered (b .state) at (k + i) (ltb (x .section) (g .sections)) .state }) v st
-            ≡ advanced (resultOf b k i at (ltb (x .section) (g .sections))) v st
-        go zero nz = absurd (nz refl)
-        go (suc i) nz = refl
+  pub steps-made : (r : Advanced) (o : Stepped) → r ≡ record { answer = o .answer; stores = i; acknowledged = b .acknowledged; state = o .state }
+      → o ≡ recovered (b .state) at (k + i) (ltb (x .section) (g .sections)) → i ≢ 0 → (st : List ℕ) → stagingOk g st ≡ true
+      → advanced r v st ≡ advanceFrom (r .stores) (advanced b v₀ st)
+  steps-made r o er eo nz st q =
+      ap (λ (a : Advanced). advanced a v st) er
+      ∙ ap (λ (o : Stepped). advanced (record { answer = o .answer; stores = i; acknowledged = b .acknowledged; state = o .state }) v st) eo
+      ∙ go i nz ∙ u .reach st q ∙ ap (λ (a : Advanced). advanceFrom (a .stores) (advanced b v₀ st)) (sym er)
+    where
+      go : (i : ℕ) → i ≢ 0
+          → advanced (record { answer = recovered (b .state) at (k + i) (ltb (x .section) (g .sections)) .answer; stores = i; acknowledged = b .acknowledged; state = recovered (b .state) at (k + i) (ltb (x .section) (g .sections)) .state }) v st
+          ≡ advanced (resultOf b k i at (ltb (x .section) (g .sections))) v st
+      go zero nz = absurd (nz refl)
+      go (suc i) nz = refl

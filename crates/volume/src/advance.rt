@@ -2,6 +2,7 @@
 // each store straight to the next.
 use journal::journal as sections;
 use layout::MOST_SECTIONS;
+use layout::SECTOR_SIZE;
 use model::Advanced;
 use model::Done;
 use model::Phase;
@@ -12,6 +13,7 @@ use model::Stepped;
 use sound::state;
 use volume_step::recovery;
 use volume_step::step;
+use volume_step::store;
 ghost use mathlib.Core.Bool.{true, false, _&&_};
 ghost use mathlib.Core.List.{List};
 ghost use mathlib.Core.Path.{_≡_};
@@ -67,14 +69,20 @@ fn one_more(last: Advanced, stepped: Stepped) -> Advanced
 }
 
 // n steps more. Once a step stores nothing, every further one is the same, and is not made.
-fn steps(before: Advanced, v: &mut [u8], st: &mut [u8], n: usize) -> Advanced
+fn steps(
+    before: Advanced,
+    v: &mut [u8],
+    st: &mut [u8],
+    n: usize,
+    content: &mut [u8; SECTOR_SIZE],
+) -> Advanced
     requires { ⌜ before .stores + n < 2 ^ 64 ⌝ }
     ensures { λ r. ⌜ advanced r (now (v .exit)) (now (st .exit)) ≡ advanceFrom n (advanced before (now (v .entry)) (now (st .entry))) ⌝ }
 {
     let mut last = before;
     let mut i = 0;
     while i < n {
-        let stepped = step::step(last.state, v, st);
+        let stepped = step::step_through(last.state, v, st, content);
         let answer = stepped.answer;
         let next = one_more(last, stepped);
         last = next;
@@ -108,6 +116,7 @@ fn replay_from(
     ids: &[u64; MOST_SECTIONS],
     k: usize,
     n: usize,
+    content: &mut [u8; SECTOR_SIZE],
 ) -> Advanced
     requires { ⌜ (before .stores ≡ 0) × (stateOk (before .state) ≡ true) × (volumeLoanOk (now v) && leb (needed (before .state .layout) * 512) (length (now v)) ≡ true) × (before .state .phase ≡ Phase.Recovering k) × (now ids ≡ idsOf (before .state .layout) (now v)) ⌝ }
     ensures { λ r. ⌜ ((st : List ℕ) → stagingOk (before .state .layout) st ≡ true → advanced r (now (v .exit)) st ≡ advanceFrom (r .stores) (advanced before (now (v .entry)) st)) × (r .stores ≤ n) ⌝ }
@@ -125,8 +134,9 @@ fn replay_from(
         if g.provided as u64 <= sector {
             break;
         }
-        at = recovery::store_replayed(v, g, x, sector as usize);
+        at = recovery::replayed_store(v, g, x, sector as usize, content);
         let next = sections::next_location(ids, v, g, x);
+        store::put(v, at, content);
         x = next;
         i += 1;
     }
@@ -138,7 +148,14 @@ fn replay_from(
 }
 
 // The same on a journal that is yet to be scanned.
-fn recover(before: Advanced, v: &mut [u8], st: &[u8], k: usize, n: usize) -> Advanced
+fn recover(
+    before: Advanced,
+    v: &mut [u8],
+    st: &[u8],
+    k: usize,
+    n: usize,
+    content: &mut [u8; SECTOR_SIZE],
+) -> Advanced
     requires { ⌜ (before .stores ≡ 0) × (before .state .phase ≡ Phase.Recovering k) ⌝ }
     ensures { λ r. ⌜ (advanced r (now (v .exit)) (now (st .entry)) ≡ advanceFrom (r .stores) (advanced before (now (v .entry)) (now (st .entry)))) × (r .stores ≤ n) ⌝ }
 {
@@ -155,7 +172,7 @@ fn recover(before: Advanced, v: &mut [u8], st: &[u8], k: usize, n: usize) -> Adv
     }
     let mut ids = [0u64; MOST_SECTIONS];
     sections::scan(v, g, &mut ids);
-    replay_from(before, v, &ids, k, n)
+    replay_from(before, v, &ids, k, n, content)
 }
 
 // Makes n steps.
@@ -163,14 +180,15 @@ pub fn advance(s: State, v: &mut [u8], st: &mut [u8], n: usize) -> Advanced
     ensures { λ r. ⌜ advanced r (now (v .exit)) (now (st .exit)) ≡ advanceOf n s (now (v .entry)) (now (st .entry)) ⌝ }
 {
     let before = no_step(s);
+    let mut content = [0u8; SECTOR_SIZE];
     let p = s.phase;
     match p {
-        Phase::Filling => steps(before, v, st, n),
-        Phase::Committing(_) => steps(before, v, st, n),
-        Phase::WritingBack(_, _) => steps(before, v, st, n),
+        Phase::Filling => steps(before, v, st, n, &mut content),
+        Phase::Committing(_) => steps(before, v, st, n, &mut content),
+        Phase::WritingBack(_, _) => steps(before, v, st, n, &mut content),
         Phase::Recovering(k) => {
-            let last = recover(before, v, st, k, n);
-            steps(last, v, st, n - last.stores)
+            let last = recover(before, v, st, k, n, &mut content);
+            steps(last, v, st, n - last.stores, &mut content)
         }
     }
 }

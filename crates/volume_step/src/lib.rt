@@ -6,4 +6,4 @@ mod answers;
 pub mod next_store;
 pub mod recovery;
 pub mod step;
-mod store;
+pub mod store;

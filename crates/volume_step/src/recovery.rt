@@ -1,7 +1,6 @@
 // A store of a recovery on a journal that has been scanned: document 01, "Working a volume", Step, "Recovering". These are functions for the crates of
 // this repository, which have the scan: so they have a `requires`, and crate volume does not pass them on.
 use crate::answers;
-use crate::store;
 use journal::journal as sections;
 use layout::SECTOR_SIZE;
 use model::Layout;
@@ -19,7 +18,7 @@ ghost use lib.ListN.{length};
 ghost use Rattle.model.specs.Layout.{entryCount, needed, layoutOk};
 ghost use Rattle.model.specs.Section.{entryOf};
 ghost use Rattle.model.specs.Journal.{sectionOf, replay};
-ghost use Rattle.model.specs.Store.{made, homeStore, storesOf};
+ghost use Rattle.model.specs.Store.{homeStore, storesOf};
 ghost use Rattle.model.specs.State.{stateOk, volumeOk, stagingOk};
 ghost use Rattle.model.specs.Step.{placeAt, stepOf};
 ghost use Rattle.section.specs.Locations.{Locates};
@@ -65,14 +64,17 @@ pub(crate) fn next_store(
     replayed(s, at, k + 1, more)
 }
 
-// Makes the store that x names, of an entry of the logical sector `sector`. Gives the sector stored.
-pub fn store_replayed(v: &mut [u8], g: Layout, x: Location, sector: usize) -> usize
+// The store that x names, of an entry of the logical sector `sector`: its content goes to `content`. Gives the sector that is to hold it.
+pub fn replayed_store(
+    v: &[u8],
+    g: Layout,
+    x: Location,
+    sector: usize,
+    content: &mut [u8; SECTOR_SIZE],
+) -> usize
     requires { ⌜ (layoutOk g ≡ true) × (needed g * 512 ≤ length (now v)) × (x .section < g .sections) × (x .entry < entryCount (g .width)) × (sector ≡ entryOf (g .width) (sectionOf g (now v) (x .section)) (x .entry) .sector) × (sector < g .provided) × (x .store < 2) ⌝ }
-    ensures { λ r. ⌜ (r ≡ homeStore g (now (v .entry)) (entryOf (g .width) (sectionOf g (now (v .entry)) (x .section)) (x .entry)) (x .store) .at) × (now (v .exit) ≡ made (now (v .entry)) (homeStore g (now (v .entry)) (entryOf (g .width) (sectionOf g (now (v .entry)) (x .section)) (x .entry)) (x .store))) ⌝ }
+    ensures { λ r. ⌜ record { at = r; content = now (content .exit) } ≡ homeStore g (now (v .entry)) (entryOf (g .width) (sectionOf g (now (v .entry)) (x .section)) (x .entry)) (x .store) ⌝ }
 {
-    let mut content = [0u8; SECTOR_SIZE];
     let section = sections::section_of(v, g, x.section);
-    let at = stores::home_store(v, g, section, x.entry, sector, x.store, &mut content);
-    store::put(v, at, &content);
-    at
+    stores::home_store(v, g, section, x.entry, sector, x.store, content)
 }

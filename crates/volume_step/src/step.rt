@@ -12,8 +12,20 @@ pub fn step(s: State, v: &mut [u8], st: &mut [u8]) -> Stepped
     ensures { λ r. ⌜ Leaves (now (v .entry)) (stepOf s (now (v .entry)) (now (st .entry))) r (now (v .exit)) (now (st .exit)) ⌝ }
 {
     let mut content = [0u8; SECTOR_SIZE];
-    let stepped = next_store::next_store(s, v, st, &mut content);
+    step_through(s, v, st, &mut content)
+}
+
+// The same with a sector lent for the content, so that a caller of many steps makes it once. What it holds afterwards is left open.
+pub fn step_through(
+    s: State,
+    v: &mut [u8],
+    st: &mut [u8],
+    content: &mut [u8; SECTOR_SIZE],
+) -> Stepped
+    ensures { λ r. ⌜ Leaves (now (v .entry)) (stepOf s (now (v .entry)) (now (st .entry))) r (now (v .exit)) (now (st .exit)) ⌝ }
+{
+    let stepped = next_store::next_store(s, v, st, content);
     let answer = stepped.answer;
-    store::make(v, answer, &content);
+    store::make(v, answer, content);
     stepped
 }

@@ -9,7 +9,7 @@ ghost use Rattle.octets.specs.Sectors.{putSector};
 ghost use Rattle.volume_step.specs.Results.{storedBy, Inside};
 
 // Stores a sector. No other line of the library writes to a volume that has been formatted.
-pub(crate) fn put(v: &mut [u8], at: usize, content: &[u8; SECTOR_SIZE])
+pub fn put(v: &mut [u8], at: usize, content: &[u8; SECTOR_SIZE])
     requires { ⌜ (at + 1) * 512 ≤ length (now v) ⌝ }
     ensures { λ r. ⌜ now (v .exit) ≡ putSector (now (v .entry)) at (now (content .entry)) ⌝ }
 {

@@ -11,41 +11,41 @@ use Rattle.volume.proofs.advance.steps.Statement.{statement}
 use Rattle.volume.proofs.advance.steps.Tie as tie
 
 abbrev Inv-loop : tie.InvT-loop
-Inv-loop v₀ st₀ n last₀ i₀ v st last i =
+Inv-loop v₀ st₀ n content₀ last₀ i₀ v st content last i =
     (i ≤ n) × (length v ≡ length v₀) × (length st ≡ length st₀) × (last .stores ≤ last₀ .stores + i) × (advanced last v st ≡ advanceFrom i (advanced last₀ v₀ st₀))
 
 abbrev μ-loop : tie.MeasureT-loop
-μ-loop v₀ st₀ n last₀ i₀ v st last i = n - i
+μ-loop v₀ st₀ n content₀ last₀ i₀ v st content last i = n - i
 
 loop-holds : tie.Need-loop-holds Inv-loop μ-loop
 loop-holds c = (omega arith, refl, refl, omega arith, made-none _)
 
 one-more-requires : tie.Need-one-more-requires Inv-loop μ-loop
-one-more-requires c κs = omega (arith, c .before .before .before .before .before .before .before .before .before .before .before .pre, c .before .before .before .before .before .before .before .before .loop .inv .3)
+one-more-requires c κs = omega (arith, c .before .before .before .before .before .before .before .before .before .before .before .before .pre, c .before .before .before .before .before .before .before .before .before .loop .inv .3)
 
 returns : tie.Need-returns Inv-loop μ-loop
 returns c =
-    let start = c .before .before .before .before .before .before .before .before .before .before .before .before .before .before in
-    let turn = c .before .before .before .before .before .before .before .before .before .before .before .loop in
-    let step = c .before .before .before .before .before .before .before .step in
+    let args = c .before .before .before .before .before .before .before .before .before .before .before .before .before .before .before .args in
+    let turn = c .before .before .before .before .before .before .before .before .before .before .before .before .loop in
+    let step = c .before .before .before .before .before .before .before .step-through in
     let more = c .before .before .one-more in
     made-all (turn .last) (more .result) (step .result) (more .ensures) (turn .v) (turn .st) _ _ (step .ensures)
-    (advanced (start .args .before) (start .args .v .now) (start .args .st .now)) (turn .i) (turn .inv .4) (start .args .n) (c .before .before .before .before .before .before .before .before .before .before .loop-test .taken) (omega (arith, c .before .stores-in .ensures .0, c .if1 .taken))
+    (advanced (args .before) (args .v .now) (args .st .now)) (turn .i) (turn .inv .4) (args .n) (c .before .before .before .before .before .before .before .before .before .before .before .loop-test .taken) (omega (arith, c .before .stores-in .ensures .0, c .if1 .taken))
 
 loop-again : tie.Need-loop-again Inv-loop μ-loop
 loop-again c =
-    let start = c .before .before .before .before .before .before .before .before .before .before .before .before .before .before in
-    let turn = c .before .before .before .before .before .before .before .before .before .before .before .loop in
-    let step = c .before .before .before .before .before .before .before .step in
+    let args = c .before .before .before .before .before .before .before .before .before .before .before .before .before .before .before .args in
+    let turn = c .before .before .before .before .before .before .before .before .before .before .before .before .loop in
+    let step = c .before .before .before .before .before .before .before .step-through in
     let more = c .before .before .one-more in
     let count = c .before .stores-in in
     let stores : more .result .stores ≡ turn .last .stores + _ = ap (λ (a : Advanced). a .stores) (more .ensures) in (
-      omega (arith, c .before .before .before .before .before .before .before .before .before .before .loop-test .taken),
+      omega (arith, c .before .before .before .before .before .before .before .before .before .before .before .loop-test .taken),
       search needs,
       search needs,
       omega (arith, stores, count .ensures .0, count .ensures .1, turn .inv .3),
       made-more (turn .last) (more .result) (step .result) (more .ensures) (turn .v) (turn .st) _ _ (step .ensures)
-          (advanced (start .args .before) (start .args .v .now) (start .args .st .now)) (turn .i) (turn .inv .4),
+          (advanced (args .before) (args .v .now) (args .st .now)) (turn .i) (turn .inv .4),
     )
 
 returns-2 : tie.Need-returns-2 Inv-loop μ-loop
