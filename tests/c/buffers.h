@@ -16,6 +16,23 @@ static inline void assert_untouched(const uint8_t *buffer, size_t length) {
     }
 }
 
+/* A number of 8 bytes, little-endian. */
+static inline uint64_t number_at(const uint8_t *buffer, size_t at) {
+    uint64_t n = 0;
+    size_t i;
+    for (i = 8; i > 0; i--) {
+        n = n << 8 | buffer[at + i - 1];
+    }
+    return n;
+}
+
+static inline void put_number(uint8_t *buffer, size_t at, uint64_t n) {
+    size_t i;
+    for (i = 0; i < 8; i++) {
+        buffer[at + i] = (uint8_t)(n >> 8 * i);
+    }
+}
+
 /* The value of a hexadecimal digit. */
 static inline uint8_t digit(char c) {
     return (uint8_t)(c <= '9' ? c - '0' : c - 'a' + 10);

@@ -30,16 +30,6 @@ enum {
 
 static uint8_t volume[VOLUME], staging[STAGING], state[STATE], answer[ANSWER], layout[LAYOUT], bytes[SECTOR];
 
-/* A number of 8 bytes, little-endian. */
-static uint64_t number_at(const uint8_t *buffer, size_t at) {
-    uint64_t n = 0;
-    size_t i;
-    for (i = 8; i > 0; i--) {
-        n = n << 8 | buffer[at + i - 1];
-    }
-    return n;
-}
-
 static void assert_answer(uint64_t first, uint64_t second, uint64_t third) {
     assert(number_at(answer, 0) == first);
     assert(number_at(answer, 8) == second);

@@ -1,0 +1,118 @@
+#undef NDEBUG
+
+#include "volume.h"
+
+#include "calls.h"
+
+#include <assert.h>
+#include <string.h>
+
+enum {
+    /* The largest journal that there is, and what stands around it. */
+    MOST_SECTORS = MOST_SECTIONS * LARGEST_SECTION + 2500,
+    MOST_PROVIDED = 200,
+    MOST_RESERVED = 64,
+    /* The logarithms of a run's sectors. */
+    LEAST_SHIFT = 3,
+    SHIFTS = 13
+};
+
+/* Each has a byte more than is lent. */
+static uint8_t volume[MOST_SECTORS * SECTOR + 1], staging[LARGEST_SECTION * SECTOR + 1], state[STATE + 1],
+    layout[LAYOUT + 1], bytes[SECTOR + 1], answer[ANSWER + 1];
+
+struct given fit;
+
+uint64_t format_volume(const struct given *g) {
+    return CALL(gaffreel_volume_format, LENT(g->volume), g->reserved, g->shift, g->width, g->sections, g->provided,
+                LENT(g->answer));
+}
+
+uint64_t query_volume(const struct given *g) {
+    return CALL(gaffreel_volume_query, LENT(g->volume), g->reserved, LENT(g->layout), LENT(g->answer));
+}
+
+uint64_t open_volume(const struct given *g) {
+    return CALL(gaffreel_volume_open, LENT(g->volume), LENT(g->staging), g->reserved, LENT(g->state), LENT(g->answer));
+}
+
+uint64_t write_sector(const struct given *g) {
+    return CALL(gaffreel_volume_write, LENT(g->state), LENT(g->staging), g->sector, LENT(g->bytes), LENT(g->answer));
+}
+
+uint64_t flush_batch(const struct given *g) {
+    return CALL(gaffreel_volume_flush, LENT(g->state), LENT(g->answer));
+}
+
+uint64_t make_step(const struct given *g) {
+    return CALL(gaffreel_volume_step, LENT(g->state), LENT(g->volume), LENT(g->staging), LENT(g->answer));
+}
+
+/* The store is made too, as the call asks. */
+uint64_t make_next_store(const struct given *g) {
+    uint64_t answered = CALL(gaffreel_volume_next_store, LENT(g->state), LENT(g->volume), LENT(g->staging), LENT(g->bytes),
+                             LENT(g->answer));
+    if (answered == GAFFREEL_DONE && number_at(answer, 0) == 1) {
+        memcpy(volume + number_at(answer, 8) * SECTOR, bytes, SECTOR);
+    }
+    return answered;
+}
+
+uint64_t advance_steps(const struct given *g) {
+    return CALL(gaffreel_volume_advance, LENT(g->state), LENT(g->volume), LENT(g->staging), g->steps, LENT(g->answer));
+}
+
+uint64_t read_sector(const struct given *g) {
+    return CALL(gaffreel_volume_read, LENT(g->state), LENT(g->volume), LENT(g->staging), g->sector, LENT(g->bytes),
+                LENT(g->answer));
+}
+
+void begin(size_t width, size_t sections) {
+    fit = (struct given){
+        .volume = {volume, 0},
+        .staging = {staging, 0},
+        .state = {state, STATE},
+        .layout = {layout, LAYOUT},
+        .bytes = {bytes, SECTOR},
+        .answer = {answer, ANSWER},
+        .reserved = draw(MOST_RESERVED + 1),
+        .shift = LEAST_SHIFT + draw(SHIFTS),
+        .width = width,
+        .sections = sections,
+        .provided = 1 + draw(MOST_PROVIDED),
+    };
+    /* The refusal of a volume that is too short tells the sectors that it needs. */
+    assert(format_volume(&fit) == GAFFREEL_SHORT);
+    fit.volume.length = number_at(answer, 8) * SECTOR;
+    assert(fit.volume.length < sizeof volume);
+    memset(volume, 0, fit.volume.length);
+    assert(format_volume(&fit) == GAFFREEL_DONE);
+    assert(query_volume(&fit) == GAFFREEL_DONE);
+    fit.staging.length = number_at(answer, 0);
+    assert(fit.staging.length < sizeof staging);
+    assert(open_volume(&fit) == GAFFREEL_DONE);
+}
+
+size_t section_size(void) {
+    return fit.staging.length / SECTOR;
+}
+
+size_t entry_count(void) {
+    return section_size() - METADATA;
+}
+
+uint8_t *section_at(size_t section) {
+    return volume + (fit.reserved + SUPERBLOCK + section * section_size()) * SECTOR;
+}
+
+uint8_t *entry_at(uint8_t *section, size_t entry) {
+    size_t in_sector = entry_count() / METADATA;
+    return section + entry / in_sector * SECTOR + entry % in_sector * (16 + fit.width);
+}
+
+void put_commit_id(size_t section, uint64_t id) {
+    size_t i;
+    for (i = 0; i < section_size(); i++) {
+        put_number(section_at(section), i * SECTOR + COMMIT_ID_AT, id);
+    }
+}

@@ -1,0 +1,60 @@
+/* A volume with the buffers of its calls, and the calls. */
+#ifndef VOLUME_H
+#define VOLUME_H
+
+#include "buffers.h"
+#include "gaffreel.h"
+#include "hostile.h"
+
+enum {
+    SECTOR = GAFFREEL_VOLUME_SECTOR_SIZE,
+    LAYOUT = GAFFREEL_VOLUME_LAYOUT_SIZE,
+    STATE = GAFFREEL_VOLUME_STATE_SIZE,
+    ANSWER = GAFFREEL_VOLUME_ANSWER_SIZE,
+    /* The bytes of a tag: 8, and twice as many each time. */
+    LEAST_WIDTH = 8,
+    WIDTHS = 3,
+    MOST_SECTIONS = 64,
+    /* The sectors of the largest section, and of the staging buffer for it. */
+    LARGEST_SECTION = 168,
+    /* Where a state has its phase, the two numbers of its place, its entries and its next commit id. */
+    PHASE_AT = 40,
+    PLACE_AT = 48,
+    HALF_AT = 56,
+    COUNT_AT = 64,
+    ID_AT = 72,
+    /* The sectors of the superblock, and of a section's metadata; where a sector of the journal has its commit id. */
+    SUPERBLOCK = 8,
+    METADATA = 8,
+    COMMIT_ID_AT = 504
+};
+
+/* What a call is given; each takes its part of it. */
+struct given {
+    struct loan volume, staging, state, layout, bytes, answer;
+    size_t reserved, shift, width, sections, provided, sector, steps;
+};
+
+/* What fits the volume at hand. */
+extern struct given fit;
+
+typedef uint64_t volume_call(const struct given *given);
+
+volume_call format_volume, query_volume, open_volume, write_sector, flush_batch, make_step, make_next_store, advance_steps,
+    read_sector;
+
+/* A fresh volume, open, with tags of so many bytes and so many sections. */
+void begin(size_t width, size_t sections);
+
+/* The sectors of a section, and its entries. */
+size_t section_size(void);
+size_t entry_count(void);
+
+/* A section of the journal; an entry of a section. */
+uint8_t *section_at(size_t section);
+uint8_t *entry_at(uint8_t *section, size_t entry);
+
+/* Puts a commit id on every sector of a section of the journal. */
+void put_commit_id(size_t section, uint64_t id);
+
+#endif

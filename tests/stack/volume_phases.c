@@ -1,0 +1,199 @@
+/* The calls of the volume in every phase, at the first, the middle and the last store of each, with full sections. */
+#undef NDEBUG
+
+#include "calls.h"
+#include "volume.h"
+
+#include <assert.h>
+#include <string.h>
+
+/* The ways to make steps. */
+static const struct {
+    volume_call *call;
+    size_t steps;
+} ways[] = {{make_step, 0}, {make_next_store, 0}, {advance_steps, 1}, {advance_steps, 7}, {advance_steps, SIZE_MAX}};
+
+enum {
+    WAYS = sizeof ways / sizeof *ways,
+    /* How many of a range `spread` names. */
+    SPREAD = 3
+};
+
+/* The first, the middle and the last of n. */
+static size_t spread(size_t n, size_t i) {
+    return i * (n - 1) / (SPREAD - 1);
+}
+
+static uint64_t phase(void) {
+    return number_at(fit.state.at, PHASE_AT);
+}
+
+static void put_phase(uint64_t phase, uint64_t place, uint64_t half) {
+    put_number(fit.state.at, PHASE_AT, phase);
+    put_number(fit.state.at, PLACE_AT, place);
+    put_number(fit.state.at, HALF_AT, half);
+}
+
+static uint64_t step_by(size_t way) {
+    fit.steps = ways[way].steps;
+    return ways[way].call(&fit);
+}
+
+/* Each way from the same state and staging, which are left as they were. */
+static void step_each_way(uint64_t answer) {
+    static uint8_t state[STATE], staging[LARGEST_SECTION * SECTOR];
+    size_t i;
+    memcpy(state, fit.state.at, STATE);
+    memcpy(staging, fit.staging.at, fit.staging.length);
+    for (i = 0; i < WAYS; i++) {
+        assert(step_by(i) == answer);
+        memcpy(fit.state.at, state, STATE);
+        memcpy(fit.staging.at, staging, fit.staging.length);
+    }
+}
+
+/* Writes until the batch is full. */
+static void fill_batch(void) {
+    do {
+        fit.sector = draw(fit.provided);
+        fill(fit.bytes.at, SECTOR);
+    } while (write_sector(&fit) == GAFFREEL_DONE);
+    assert(number_at(fit.state.at, COUNT_AT) == entry_count());
+}
+
+/* A full batch, brought home by steps of every kind. */
+static void commit_batch(void) {
+    fill_batch();
+    assert(flush_batch(&fit) == GAFFREEL_DONE);
+    while (phase() != GAFFREEL_VOLUME_FILLING) {
+        assert(step_by(draw(WAYS - 1)) == GAFFREEL_DONE);
+    }
+}
+
+static void committing(void) {
+    size_t i;
+    for (i = 0; i < SPREAD; i++) {
+        put_phase(GAFFREEL_VOLUME_COMMITTING, spread(section_size(), i), 0);
+        step_each_way(GAFFREEL_DONE);
+    }
+    put_phase(GAFFREEL_VOLUME_COMMITTING, section_size(), 0);
+    step_each_way(GAFFREEL_LENGTH_OR_LIMIT);
+}
+
+/* Either store of an entry, as it is, and with a logical sector that the volume does not provide. */
+static void write_entry_back(size_t entry) {
+    uint8_t *at = entry_at(fit.staging.at, entry);
+    uint64_t half, sector = number_at(at, 0);
+    for (half = 0; half < 2; half++) {
+        put_phase(GAFFREEL_VOLUME_WRITING_BACK, entry, half);
+        step_each_way(GAFFREEL_DONE);
+        put_number(at, 0, fit.provided);
+        step_each_way(GAFFREEL_SECTOR_RANGE);
+        put_number(at, 0, sector);
+    }
+}
+
+static void writing_back(void) {
+    size_t i;
+    for (i = 0; i < SPREAD; i++) {
+        write_entry_back(spread(entry_count(), i));
+    }
+    put_phase(GAFFREEL_VOLUME_WRITING_BACK, entry_count(), 0);
+    step_each_way(GAFFREEL_LENGTH_OR_LIMIT);
+}
+
+/* Either store of an entry of the journal, whose sections are full and in order; then the same with the entry damaged. */
+static void recover_entry(size_t section, size_t entry) {
+    uint8_t *at = entry_at(section_at(section), entry);
+    uint64_t store = 2 * (section * entry_count() + entry), sector = number_at(at, 0);
+    put_phase(GAFFREEL_VOLUME_RECOVERING, store, 0);
+    step_each_way(GAFFREEL_DONE);
+    put_phase(GAFFREEL_VOLUME_RECOVERING, store + 1, 0);
+    step_each_way(GAFFREEL_DONE);
+
+    put_number(at, 0, fit.provided);
+    assert(open_volume(&fit) == GAFFREEL_SECTOR_RANGE);
+    step_each_way(GAFFREEL_SECTOR_RANGE);
+    put_phase(GAFFREEL_VOLUME_RECOVERING, 0, 0);
+    fit.steps = SIZE_MAX;
+    assert(advance_steps(&fit) == GAFFREEL_SECTOR_RANGE);
+    assert(number_at(fit.answer.at, 24) == store);
+    step_each_way(GAFFREEL_SECTOR_RANGE);
+    put_number(at, 0, sector);
+
+    /* A byte of its data. */
+    at[8] ^= 1;
+    assert(open_volume(&fit) == GAFFREEL_TAG_MISMATCH);
+    at[8] ^= 1;
+}
+
+/* A journal whose last section has the last commit id, or one that belongs elsewhere; with one section, none does. */
+static void wrong_commit_ids(void) {
+    size_t last = fit.sections - 1;
+    uint64_t id = number_at(section_at(last), COMMIT_ID_AT);
+    put_commit_id(last, UINT64_MAX);
+    assert(open_volume(&fit) == GAFFREEL_EXHAUSTED);
+    put_commit_id(last, id + 1);
+    assert(open_volume(&fit) == (last == 0 ? GAFFREEL_DONE : GAFFREEL_MISPLACED));
+    put_commit_id(last, id);
+}
+
+/* The whole replay of a full journal, and its first, middle and last entry. */
+static void recovering(void) {
+    uint64_t stores;
+    size_t i;
+    assert(open_volume(&fit) == GAFFREEL_DONE);
+    stores = number_at(fit.answer.at, 0);
+    assert(stores == 2 * entry_count() * fit.sections && phase() == GAFFREEL_VOLUME_RECOVERING);
+    assert(write_sector(&fit) == GAFFREEL_NOT_NOW && read_sector(&fit) == GAFFREEL_NOT_NOW);
+    for (i = 0; i < SPREAD; i++) {
+        recover_entry(spread(fit.sections, i), spread(entry_count(), i));
+    }
+    put_phase(GAFFREEL_VOLUME_RECOVERING, stores, 0);
+    step_each_way(GAFFREEL_LENGTH_OR_LIMIT);
+    put_phase(GAFFREEL_VOLUME_RECOVERING, 0, 0);
+    assert(step_by(WAYS - 1) == GAFFREEL_DONE && phase() == GAFFREEL_VOLUME_FILLING);
+}
+
+/* A volume that is filling: reads of the volume and of the batch, good and damaged, and a flush without an id left. */
+static void filling(void) {
+    uint8_t *last_byte = fit.volume.at + fit.volume.length - 1;
+    uint64_t id = number_at(fit.state.at, ID_AT);
+    step_each_way(GAFFREEL_DONE);
+    fit.sector = fit.provided - 1;
+    assert(read_sector(&fit) == GAFFREEL_DONE);
+    *last_byte ^= 1;
+    assert(read_sector(&fit) == GAFFREEL_TAG_MISMATCH);
+    *last_byte ^= 1;
+    assert(flush_batch(&fit) == GAFFREEL_DONE);
+    fill_batch();
+    for (fit.sector = 0; fit.sector < fit.provided; fit.sector++) {
+        assert(read_sector(&fit) == GAFFREEL_DONE);
+    }
+    assert(read_sector(&fit) == GAFFREEL_SECTOR_RANGE && write_sector(&fit) == GAFFREEL_SECTOR_RANGE);
+    put_number(fit.state.at, ID_AT, UINT64_MAX);
+    assert(flush_batch(&fit) == GAFFREEL_EXHAUSTED);
+    put_number(fit.state.at, ID_AT, id);
+    assert(flush_batch(&fit) == GAFFREEL_DONE && flush_batch(&fit) == GAFFREEL_NOT_NOW);
+}
+
+static void every_phase(size_t width, size_t sections) {
+    size_t i;
+    begin(width, sections);
+    for (i = 0; i < sections; i++) {
+        commit_batch();
+    }
+    wrong_commit_ids();
+    recovering();
+    filling();
+    committing();
+    writing_back();
+}
+
+void call_volume_phases(void) {
+    static const size_t sections[] = {1, 2, 7, MOST_SECTIONS};
+    size_t i;
+    for (i = 0; i < WIDTHS * sizeof sections / sizeof *sections; i++) {
+        every_phase(LEAST_WIDTH << i % WIDTHS, sections[i / WIDTHS]);
+    }
+}
