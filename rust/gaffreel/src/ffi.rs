@@ -123,6 +123,19 @@ unsafe extern "C" {
         answer_length: usize,
     ) -> u32;
 
+    fn gaffreel_volume_next_store(
+        state: *mut u8,
+        state_length: usize,
+        volume: *const u8,
+        volume_length: usize,
+        staging: *mut u8,
+        staging_length: usize,
+        bytes: *mut u8,
+        bytes_length: usize,
+        answer: *mut u8,
+        answer_length: usize,
+    ) -> u32;
+
     fn gaffreel_volume_advance(
         state: *mut u8,
         state_length: usize,
@@ -367,6 +380,32 @@ pub fn volume_step(
             volume.len(),
             staging.as_mut_ptr(),
             staging.len(),
+            answer.as_mut_ptr(),
+            answer.len(),
+        )
+    }
+}
+
+/// The same, but the store is the caller's to make: `bytes` receives what the sector is to hold.
+pub fn volume_next_store(
+    state: &mut [u8],
+    volume: &[u8],
+    staging: &mut [u8],
+    bytes: &mut [u8],
+    answer: &mut [u8],
+) -> u32 {
+    // SAFETY: each pointer and length are those of one slice, borrowed for the call, and `state`, `staging`, `bytes` and
+    // `answer` overlap nothing.
+    unsafe {
+        gaffreel_volume_next_store(
+            state.as_mut_ptr(),
+            state.len(),
+            volume.as_ptr(),
+            volume.len(),
+            staging.as_mut_ptr(),
+            staging.len(),
+            bytes.as_mut_ptr(),
+            bytes.len(),
             answer.as_mut_ptr(),
             answer.len(),
         )

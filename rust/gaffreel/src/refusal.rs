@@ -51,7 +51,7 @@ pub enum Refusal {
     },
     /// The batch is full.
     BatchFull,
-    /// The call cannot be made in this phase.
+    /// The call cannot be made in this phase, or while a store that is left to the volume's owner is still to be made.
     NotNow,
     /// The commit ids are used up.
     IdsUsedUp,
@@ -219,7 +219,7 @@ impl fmt::Display for Refusal {
                 "the batch is full: flush it and step until the volume is filling",
             ),
             Refusal::NotNow => f.write_str(
-                "the volume is not in a phase for this call: step until it is filling",
+                "the call has to wait: make the stores that are still to come, until the volume is filling",
             ),
             Refusal::IdsUsedUp => f.write_str(
                 "the commit ids are used up: copy the data to a volume that is formatted anew",

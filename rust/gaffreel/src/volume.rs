@@ -10,6 +10,9 @@
 //! finish the recovery. While the volume is filling, [`write()`] takes sectors into a batch; [`flush`] begins to commit it,
 //! and steps store it, first in the journal, then in its place.
 //!
+//! Where the volume can be read in place and not stored to, as flash that is mapped for reading, [`next_store`] stands for
+//! [`step`]: it tells the step's store, and the volume's owner makes it.
+//!
 //! ```
 //! use gaffreel::volume::{self, Layout, SECTOR_LENGTH};
 //!
@@ -85,9 +88,9 @@ pub enum Flushed {
 /// What a step that is taken gives.
 #[derive(Clone, Copy, Debug, PartialEq, Eq)]
 pub struct Stepped {
-    /// The volume's sector that was stored; none when filling.
+    /// The volume's sector that was stored, or that [`next_store`] leaves to be stored; none when filling.
     pub stored: Option<u64>,
-    /// What the step says of the volume.
+    /// What the step says of the volume. Of [`next_store`] it holds once the store is made.
     pub said: Said,
 }
 
@@ -218,6 +221,27 @@ pub fn flush(state: &mut State) -> Result<Flushed, Refusal> {
 pub fn step(state: &mut State, volume: &mut [u8], staging: &mut [u8]) -> Result<Stepped, Refusal> {
     let reply = Reply::on(state, |state, answer| {
         ffi::volume_step(state, volume, staging, answer)
+    });
+    reply.stepped()
+}
+
+/// Makes a step but for its store, which is left to the volume's owner: `content`, one sector, receives what the sector named
+/// in [`Stepped::stored`] is to hold. Where none is named, the volume is filling and `content` stays as it was.
+///
+/// State and staging are those after the step. So the owner makes the store before any other call, and only then passes on
+/// what the step says, acknowledged or filling. A store that fails is made again, with the same content. Where it cannot be
+/// made, state and staging are thrown away and the volume is opened again: that is a power cut before the step. A sector
+/// that stays half written is outside the promise.
+///
+/// [`Volume::next_store`] keeps the content until the store is made, and lets no other call in before.
+pub fn next_store(
+    state: &mut State,
+    volume: &[u8],
+    staging: &mut [u8],
+    content: &mut [u8],
+) -> Result<Stepped, Refusal> {
+    let reply = Reply::on(state, |state, answer| {
+        ffi::volume_next_store(state, volume, staging, content, answer)
     });
     reply.stepped()
 }

@@ -88,22 +88,28 @@ fn any_place(random: &mut Random, state: &mut State, section_sectors: u64) {
     };
 }
 
+/// Journal and staging of any kind, with a state that is sound on them, or nearly.
+pub fn nearly_sound(random: &mut Random) -> Loans {
+    let layout = small_layout(random);
+    let geometry = geometry(&layout);
+    let volume = with_journal(random, &layout);
+    let staging = any_section(random, &layout, &geometry, 0);
+    let mut loans = Loans::new(random, &volume, &staging);
+    let mut state = State {
+        layout,
+        phase: Phase::Filling,
+        count: 0,
+        id: random.pick(&[1, 7, u64::MAX - 1, u64::MAX]),
+    };
+    any_place(random, &mut state, geometry.section_sectors as u64);
+    loans.put_state(&state);
+    loans
+}
+
 #[test]
 fn advance_is_single_steps() {
     cases(2_000, |random| {
-        let layout = small_layout(random);
-        let geometry = geometry(&layout);
-        let volume = with_journal(random, &layout);
-        let staging = any_section(random, &layout, &geometry, 0);
-        let mut loans = Loans::new(random, &volume, &staging);
-        let mut state = State {
-            layout,
-            phase: Phase::Filling,
-            count: 0,
-            id: random.pick(&[1, 7, u64::MAX - 1, u64::MAX]),
-        };
-        any_place(random, &mut state, geometry.section_sectors as u64);
-        loans.put_state(&state);
+        let mut loans = nearly_sound(random);
         let steps = match random.number() % 3 {
             0 => random.number() % 3,
             1 => random.number() % 16,

@@ -64,9 +64,11 @@ fn any_call() {
         loans.clone().flush();
         loans.clone().read(sector);
         loans.clone().advance(any_steps(random));
+        let mut told = loans.clone();
         let mut loans = loans;
         for _ in 0..4 {
             loans.step();
+            told.told_step();
         }
     });
 }
@@ -81,8 +83,11 @@ fn one_call(random: &mut Random, loans: &mut Loans, layout: &Layout) {
         5 | 6 => {
             loans.flush();
         }
-        7..=9 => {
+        7 | 8 => {
             loans.step();
+        }
+        9 => {
+            loans.told_step();
         }
         10..=12 => {
             loans.advance(any_steps(random));

@@ -17,7 +17,7 @@ const LAYOUT: Layout = Layout {
 };
 
 /// A sound state in any phase, with a journal and staging for it.
-fn sound(random: &mut Random) -> Loans {
+pub fn sound(random: &mut Random) -> Loans {
     let geometry = geometry(&LAYOUT);
     let entries = [Entry::new(3, 7), Entry::new(1, 8)];
     let mut volume = formatted(&LAYOUT, random.length(0..=1));
@@ -49,6 +49,7 @@ fn each_call(random: &mut Random, loans: &Loans) {
     loans.clone().write(sector);
     loans.clone().flush();
     loans.clone().step();
+    loans.clone().next_store();
     loans.clone().advance(random.pick(&[0, 1, 5, u64::MAX]));
     loans.clone().read(sector);
     let mut loans = loans.clone();
@@ -171,10 +172,12 @@ fn volumes_around_the_limit() {
             let fits = u32::from(length != MOST_SECTORS * 512);
             assert_eq!(loans.query(LAYOUT.reserved), fits);
             assert_eq!(loans.open(LAYOUT.reserved), fits);
-            // Staging too: open made it an empty section.
-            loans.lend(|lent| &mut lent.state, &good.lent().state);
-            loans.lend(|lent| &mut lent.staging, &good.lent().staging);
-            assert_eq!(loans.step(), fits);
+            for step in [Loans::next_store, Loans::step] {
+                // Staging too: open made it an empty section.
+                loans.lend(|lent| &mut lent.state, &good.lent().state);
+                loans.lend(|lent| &mut lent.staging, &good.lent().staging);
+                assert_eq!(step(&mut loans), fits);
+            }
             let number = loans.format(&LAYOUT);
             assert_eq!(number, if fits == 0 { 3 } else { 1 });
         }

@@ -114,6 +114,18 @@ pub fn volume_step(
     })
 }
 
+pub fn volume_next_store(
+    state: &mut [u8],
+    volume: &[u8],
+    staging: &mut [u8],
+    bytes: &mut [u8],
+    answer: &mut [u8],
+) -> u32 {
+    on(state, answer, |state| {
+        volume::next_store(state, volume, staging, bytes).map(step_numbers)
+    })
+}
+
 pub fn volume_advance(
     state: &mut [u8],
     volume: &mut [u8],

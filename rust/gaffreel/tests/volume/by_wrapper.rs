@@ -96,6 +96,20 @@ pub fn volume_step(
     Some(reply(answer, stepped.map(step_numbers)))
 }
 
+pub fn volume_next_store(
+    state: &mut [u8],
+    volume: &[u8],
+    staging: &mut [u8],
+    bytes: &mut [u8],
+    answer: &mut [u8],
+) -> Option<u32> {
+    let answer = answer_in(answer)?;
+    let told = on(state, |state| {
+        volume::next_store(state, volume, staging, bytes)
+    })?;
+    Some(reply(answer, told.map(step_numbers)))
+}
+
 pub fn volume_advance(
     state: &mut [u8],
     volume: &mut [u8],

@@ -31,6 +31,12 @@ fn write(random: &mut Random, loans: &mut Loans, sector: u64) {
     assert_eq!(loans.write(sector), DONE);
 }
 
+/// One step, by either call.
+fn step(random: &mut Random, loans: &mut Loans) {
+    let step = random.pick(&[Loans::step, Loans::told_step]);
+    assert_eq!(step(loans), DONE);
+}
+
 /// Takes the steps that are left, and one that stores nothing.
 fn advance_to_filling(loans: &mut Loans) {
     assert_eq!(loans.advance(u64::MAX), DONE);
@@ -53,7 +59,7 @@ fn cut_here(random: &mut Random, loans: &Loans, layout: &Layout) -> u64 {
         advance_to_filling(&mut again);
         read_all(&mut again, layout);
         if store < stores {
-            assert_eq!(loans.step(), DONE);
+            step(random, &mut loans);
         }
     }
     read_all(&mut loans, layout);
@@ -77,7 +83,7 @@ fn cut_everywhere(random: &mut Random, layout: &Layout, batches: Batches) -> Vec
         recoveries.push(cut_here(random, &loans, layout));
         assert_eq!(loans.flush(), DONE);
         loop {
-            assert_eq!(loans.step(), DONE);
+            step(random, &mut loans);
             recoveries.push(cut_here(random, &loans, layout));
             if loans.answer()[2] == FILLING {
                 break;

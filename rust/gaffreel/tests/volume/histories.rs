@@ -11,7 +11,7 @@ use volumes::{formatted, geometry, put_id, put_ids};
 type Answered = (&'static str, u32);
 
 /// What histories answer in plenty.
-const OFTEN: [Answered; 12] = [
+const OFTEN: [Answered; 13] = [
     ("query", DONE),
     ("open", DONE),
     ("write", DONE),
@@ -20,6 +20,7 @@ const OFTEN: [Answered; 12] = [
     ("flush", DONE),
     ("flush", 9),
     ("step", DONE),
+    ("next_store", DONE),
     ("advance", DONE),
     ("read", DONE),
     ("read", 6),
@@ -27,7 +28,7 @@ const OFTEN: [Answered; 12] = [
 ];
 
 /// What they answer where bytes are damaged, ids used up or batches full.
-const SELDOM: [Answered; 13] = [
+const SELDOM: [Answered; 15] = [
     ("query", 4),
     ("open", 4),
     ("open", 6),
@@ -39,6 +40,8 @@ const SELDOM: [Answered; 13] = [
     ("flush", 10),
     ("step", 1),
     ("step", 6),
+    ("next_store", 1),
+    ("next_store", 6),
     ("advance", 6),
     ("read", 7),
 ];
@@ -115,15 +118,20 @@ impl History<'_> {
         self.answered("flush", number);
     }
 
+    /// Steps, of which the stores are made by the call or told by it.
     fn steps(&mut self) {
+        let (call, step): (_, fn(&mut Loans) -> u32) = match self.random.number() % 3 {
+            0 => ("next_store", Loans::told_step),
+            _ => ("step", Loans::step),
+        };
         let count = match self.random.number() % 3 {
             0 => self.random.length(1..=4),
             1 => self.random.length(1..=self.geometry.section_sectors),
             _ => self.geometry.section_sectors + self.random.length(0..=8),
         };
         for _ in 0..count {
-            let number = self.loans.step();
-            self.answered("step", number);
+            let number = step(&mut self.loans);
+            self.answered(call, number);
             // Further steps would be all the same.
             if number != DONE || self.loans.answer()[0] == 0 {
                 return;

@@ -7,10 +7,10 @@ use volumes::any::{any_number, any_section, small_layout, with_journal};
 use volumes::kinds::{kinds, KINDS};
 use volumes::{empty_staging, formatted, geometry, put_id, put_section, section, Entry};
 
-/// Singly a few of the steps, then all that are left at once.
+/// Singly a few of the steps, by either call, then all that are left at once.
 fn run(random: &mut Random, loans: &mut Loans) {
     for _ in 0..random.length(0..=6) {
-        loans.step();
+        random.pick(&[Loans::step, Loans::told_step])(loans);
     }
     loans.advance(u64::MAX);
 }

@@ -49,6 +49,14 @@ impl Buffers {
         numbers_in(self.answer.bytes())
     }
 
+    /// The sector that a step which answered this number names, if it names one.
+    pub fn named(&self, number: u32) -> Option<usize> {
+        match self.answer()[..] {
+            [1, sector, ..] if number == DONE => Some(sector as usize),
+            _ => None,
+        }
+    }
+
     /// All bytes of all buffers are the expected ones, the bytes around them included.
     pub fn assert_same(&self, expected: &Buffers, maker: &str, call: &str) {
         let numbers = |lent: &Buffers| [&lent.answer, &lent.state].map(|b| numbers_in(b.bytes()));
@@ -217,6 +225,30 @@ impl Loans {
                 lent.answer.buffer()
             )
         )
+    }
+
+    pub fn next_store(&mut self) -> u32 {
+        same!(
+            self,
+            lent,
+            volume_next_store(
+                lent.state.buffer(),
+                lent.volume.bytes(),
+                lent.staging.buffer(),
+                lent.bytes.buffer(),
+                lent.answer.buffer()
+            )
+        )
+    }
+
+    /// A step of which the store is told, and then made.
+    pub fn told_step(&mut self) -> u32 {
+        let number = self.next_store();
+        if let Some(sector) = self.proved.named(number) {
+            let content = self.proved.bytes.bytes().to_vec();
+            self.put(|lent| &mut lent.volume, sector * SECTOR_LENGTH, &content);
+        }
+        number
     }
 
     pub fn advance(&mut self, steps: u64) -> u32 {

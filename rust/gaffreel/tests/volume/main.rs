@@ -12,10 +12,13 @@
 //! - `buffers`: buffers of wrong lengths, state buffers of any bytes, volumes around the greatest length.
 //! - `formats`: formatted volumes, the greatest too, and formats that are refused.
 //! - `advances`: so many steps at once against as many single ones.
+//! - `next_stores`: stores told, on a volume that is mapped for reading only, against steps; cuts before and after each.
+//! - `failing_stores`: the same by the safe wrapper, with stores that fail or are given up, against the ledger.
 //! - `any_input`: volumes, staging, states and arguments of any kind.
 //! - `examples`: document 01's examples.
 //!
-//! `histories`, `states`, `journals` and `cuts` count the kinds of cases that they reach, and fail if one is too seldom.
+//! `histories`, `states`, `journals`, `cuts`, `next_stores` and `failing_stores` count the kinds of cases that they reach, and
+//! fail if one is too seldom.
 
 mod advances;
 mod any_input;
@@ -24,10 +27,13 @@ mod by_reference;
 mod by_wrapper;
 mod cuts;
 mod examples;
+mod failing_stores;
 mod formats;
 mod histories;
 mod journals;
 mod loans;
+mod mapped;
+mod next_stores;
 mod orders;
 mod refusals;
 mod states;

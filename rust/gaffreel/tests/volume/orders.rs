@@ -414,6 +414,16 @@ fn of_step() {
 }
 
 #[test]
+fn of_next_store() {
+    cases(150, |random| {
+        let (first, others) = OF_STEP.split_at(2);
+        let faults = [first, &[BYTES], others].concat();
+        let input = at_the_entry(random);
+        every_two(random, &input, &faults, |loans, _| loans.next_store());
+    });
+}
+
+#[test]
 fn of_advance() {
     cases(150, |random| {
         let input = at_the_entry(random);

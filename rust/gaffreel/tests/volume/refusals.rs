@@ -1,6 +1,6 @@
 //! Each refusal of each call, by the safe wrapper: its number, its values and what it says.
 
-use gaffreel::volume::{advance, flush, format, open, query, read, step, write};
+use gaffreel::volume::{advance, flush, format, next_store, open, query, read, step, write};
 use gaffreel::volume::{Layout, Phase, State, Stopped};
 use gaffreel::Refusal;
 use volumes::{put_id, put_section, section, Entry};
@@ -190,6 +190,29 @@ fn of_step_and_advance() {
     }
     let answer = step(&mut replayed(4), &mut volume.clone(), &mut staging.clone());
     assert_eq!(answer, Err(Refusal::LengthOrState));
+}
+
+/// As a step is, and where the content is not a sector long. Nothing is changed.
+#[test]
+fn of_next_store() {
+    let entries = [Entry::new(3, 1), Entry::new(10, 2)];
+    let volume = with_section(1, 2, &entries);
+    let staging = section(&geometry(), 0, &entries);
+    let staged = in_phase(Phase::WritingBack { entry: 1, store: 0 }, 2);
+    let replayed = |store| in_phase(Phase::Recovering { store }, 0);
+    let (section, entry) = (1, 1);
+    for (state, length, refusal) in [
+        (staged, 512, Refusal::StagedSector { entry }),
+        (replayed(2), 512, Refusal::JournalSector { section, entry }),
+        (replayed(4), 512, Refusal::LengthOrState),
+        (replayed(0), 511, Refusal::LengthOrState),
+        (replayed(0), 513, Refusal::LengthOrState),
+    ] {
+        let mut loans = (state, staging.clone(), vec![9; length]);
+        let answer = next_store(&mut loans.0, &volume, &mut loans.1, &mut loans.2);
+        assert_eq!(answer, Err(refusal));
+        assert!(loans == (state, staging.clone(), vec![9; length]));
+    }
 }
 
 /// An advance that stopped says what it counted, and what the refusal says.

@@ -61,11 +61,11 @@ const OF_STATES: [Clause; 11] = [
     Clause::RecoveringBatch,
 ];
 
-/// The clauses that step and read test too.
+/// The clauses that steps and read test too.
 const ON_VOLUMES: [Clause; 2] = [Clause::RecoveringStore, Clause::ShortVolume];
 
 /// The calls that are given a state.
-const CALLS: [&str; 5] = ["write", "flush", "step", "advance", "read"];
+const CALLS: [&str; 6] = ["write", "flush", "step", "next_store", "advance", "read"];
 
 /// The clauses that a state breaks on a volume.
 fn broken(numbers: &StateNumbers, volume: &[u8]) -> Vec<Clause> {
@@ -185,6 +185,7 @@ fn call(random: &mut Random, loans: &mut Loans, name: &'static str, broken: &[Cl
         "write" => loans.write(sector),
         "flush" => loans.flush(),
         "step" => loans.step(),
+        "next_store" => loans.next_store(),
         "advance" => loans.advance(random.pick(&[1, 2, 3, u64::MAX])),
         _ => loans.read(sector),
     };

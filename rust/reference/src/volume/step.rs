@@ -7,7 +7,7 @@ use super::{loan, Geometry, Half, Home, Phase, Refusal, Sector, State, SECTOR_LE
 /// What a step that is taken gives.
 #[derive(Clone, Copy, Debug, PartialEq, Eq)]
 pub struct Stepped {
-    /// The volume's sector that was stored; none when filling.
+    /// The volume's sector that was stored, or that `next_store` leaves to be stored; none when filling.
     pub stored: Option<u64>,
     /// What the step says of the volume.
     pub said: Said,

@@ -159,6 +159,32 @@ fn advance_at_once() {
     });
 }
 
+/// A next store is a step but for its store. It is refused as the step is, and where its content is not a sector long.
+#[test]
+fn next_store_then_made() {
+    cases(2_000, |random| {
+        let Input {
+            mut volume,
+            mut staging,
+            mut state,
+            bytes: mut content,
+            ..
+        } = any_input(random);
+        let mut stepped = (state, volume.clone(), staging.clone());
+        let answer = calls::next_store(&mut state, &volume, &mut staging, &mut content);
+        if content.len() == 512 {
+            let expected = calls::step(&mut stepped.0, &mut stepped.1, &mut stepped.2);
+            assert_eq!(answer, expected);
+        } else {
+            assert_eq!(answer, Err(Refusal::LengthOrState));
+        }
+        if let Ok(Some(sector)) = answer.map(|told| told.stored) {
+            volume[sector as usize * 512..][..512].copy_from_slice(&content);
+        }
+        assert!((state, volume, staging) == stepped);
+    });
+}
+
 /// A query is refused as open is before it looks at staging; else it gives the layout that open finds, and the length
 /// that open asks for.
 #[test]

@@ -67,6 +67,23 @@ pub fn step(state: &mut State, volume: &mut [u8], staging: &mut [u8]) -> Result<
     answer
 }
 
+pub fn next_store(
+    state: &mut State,
+    volume: &[u8],
+    staging: &mut [u8],
+    content: &mut [u8],
+) -> Result<Stepped, Refusal> {
+    let before = (*state, staging.to_vec(), content.to_vec());
+    let answer = volume::next_store(state, volume, staging, content);
+    if answer.is_err() {
+        assert_eq!((*state, &*staging), (before.0, &*before.1));
+    }
+    if !matches!(answer, Ok(stepped) if stepped.stored.is_some()) {
+        assert_eq!(content, before.2);
+    }
+    answer
+}
+
 /// All sectors but the one stored are as before.
 fn assert_others_unchanged(before: &[u8], after: &[u8], stored: Option<u64>) {
     let (start, end) = match stored {
