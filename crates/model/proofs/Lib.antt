@@ -6,12 +6,14 @@ pub mod Order
 pub mod Journals
 pub mod Replays
 pub mod Plans
+pub mod Entries
 pub mod Homes
 pub mod Invariant
 pub mod Commits
 pub mod Committing
 pub mod Cuts
 pub mod Steps
+pub mod States
 pub mod Batches
 pub mod Opens
 pub mod Formats
@@ -20,3 +22,4 @@ pub mod Guarantees
 pub mod Advances
 pub mod ReadBack
 pub mod FirstRule
+pub mod NextStore

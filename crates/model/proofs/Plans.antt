@@ -12,11 +12,11 @@ use Rattle.model.specs.Store.{homeCount, Place, storeOf, placesOf, plan,
 use Rattle.model.specs.Step.{noEntry, noPlace}
 use Rattle.model.specs.declared.Layout.{Layout}
 
-length-places : (f : ℕ → Place) (n : ℕ) → length (collect n (λ h. f h ∷ [])) ≡ n
+pub length-places : (f : ℕ → Place) (n : ℕ) → length (collect n (λ h. f h ∷ [])) ≡ n
 length-places f zero = refl
 length-places f (suc n) = length-append (collect n (λ h. f h ∷ [])) (f n ∷ []) ∙ rw (length-places f n) (omega arith)
 
-get-places : (f : ℕ → Place) (n h : ℕ) → h < n → getD (collect n (λ h. f h ∷ [])) h noPlace ≡ f h
+pub get-places : (f : ℕ → Place) (n h : ℕ) → h < n → getD (collect n (λ h. f h ∷ [])) h noPlace ≡ f h
 get-places f zero h l = absurd (omega arith)
 get-places f (suc n) h l = go (get-places f n h) (ℕ-discrete h n)
   where

@@ -319,3 +319,27 @@ module _ (t : ℕ) (pos : 0 < perSector t) where
       ∙ part-append-left (collect (perSector t) (λ i. emptyEntry t)) (replicate (512 - entrySize t * perSector t) 0) (entryOffset t i) 8 (omega (arith, meta-chunks))
       ∙ e₄ ∙ take-at (le 8 unused) (replicate (8 + t) 0) 8 (length-le 8 unused))
       ∙ value-le 8 unused (omega arith)
+
+-- ---- an entry that is read from a section has all its bytes
+
+module _ (t i : ℕ) (small : t ≤ 32) (l : i < entryCount t) (sec : List ℕ) (size : length sec ≡ sectionSize t * 512) where
+  pos : 0 < perSector t
+  pos = per-pos t (omega arith)
+
+  sector-length : (j : ℕ) → j < sectionSize t → length (sectorAt sec j) ≡ 512
+  sector-length j h = length-part sec (j * 512) 512 (omega arith)
+
+  metadata-length : length (sectorAt sec (metadataOf t i)) ≡ 512
+  metadata-length = sector-length (metadataOf t i) (omega (arith, entry-low t pos i l))
+
+  pub bytes-length : length (entryOf t sec i .bytes) ≡ 512
+  unfolding entryOf
+  bytes-length =
+      let low : length (take 504 (sectorAt sec (8 + i))) ≡ 504 = length-take-le 504 (sectorAt sec (8 + i)) (omega (arith, sector-length (8 + i) (omega arith))) in
+      let high : length (part (sectorAt sec (metadataOf t i)) (entryOffset t i + 8) 8) ≡ 8 =
+      length-part (sectorAt sec (metadataOf t i)) (entryOffset t i + 8) 8 (omega (arith, entry-fits t pos i, metadata-length)) in
+      length-append (take 504 (sectorAt sec (8 + i))) (part (sectorAt sec (metadataOf t i)) (entryOffset t i + 8) 8) ∙ omega arith
+
+  pub tag-length : length (entryOf t sec i .tag) ≡ t
+  unfolding entryOf
+  tag-length = length-part (sectorAt sec (metadataOf t i)) (entryOffset t i + 16) t (omega (arith, entry-fits t pos i, metadata-length))

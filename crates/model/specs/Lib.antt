@@ -21,3 +21,4 @@ pub mod Demand3
 pub mod Guarantees
 pub mod ReadBack
 pub mod FirstRule
+pub mod NextStore

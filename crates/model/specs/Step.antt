@@ -5,7 +5,6 @@
 -- writeBackStep ..   : a step in writing back
 -- recoverStep ..     : a step in recovering
 -- stepOf s v st      : the call: its answer and the state afterwards, its effect on the volume, the staging loan afterwards
--- nextStoreOf s v st out : the call that leaves the effect to the volume's owner, and puts its content in the loan out
 use Prim.Native.Nat.{ℕ, _+_}
 use mathlib.Core.Bool.{Bool, not, _&&_}
 use mathlib.Core.List.{List, [], _∷_}
@@ -27,7 +26,7 @@ use Rattle.model.specs.Layout.{sectionSize, sectionAt}
 use Rattle.model.specs.Section.{Entry, entryOf, emptySection}
 use Rattle.model.specs.Journal.{sectionFor, sealed, Replayed, replay}
 use Rattle.model.specs.Store.{Store, Effect, none, one, homeCount, homeStore, Place, storeOf, plan, storesOf}
-use Rattle.model.specs.State.{Verdict, passed, refused, stateOk, volumeOk, stagingOk, sectorOk}
+use Rattle.model.specs.State.{Verdict, passed, refused, stateOk, volumeOk, stagingOk}
 use Rattle.model.specs.Flush.{inPhase}
 
 pub record StepResult : Type 0 where
@@ -136,7 +135,3 @@ module _ (s : State) (v st : List ℕ) where
 
   unfoldable pub stepOf : StepResult
   stepOf = stepBy (firstMet (stepRows s v st) passed)
-
-  -- refused 1 also where the loan for the content is not a sector long
-  unfoldable pub nextStoreOf : List ℕ → StepResult
-  nextStoreOf out = stepBy (firstMet ((not (sectorOk out), refused Malformed) ∷ stepRows s v st) passed)

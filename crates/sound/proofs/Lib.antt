@@ -1,3 +1,2 @@
--- Laws that the proofs of the tests and of the tag cite, and that callers cite of a sound state.
-pub mod Sound
+-- Laws that the proof of the tag cites.
 pub mod Tags

@@ -15,7 +15,8 @@ use Rattle.octets.specs.Choice.{pick, firstMet}
 use Rattle.model.specs.declared.Refusal.the-variants.{Malformed}
 use Rattle.model.specs.Refusal.{numberOf}
 use Rattle.model.specs.Store.{afterEffect, contentOf}
-use Rattle.model.specs.Step.{StepResult, stepOf, nextStoreOf}
+use Rattle.model.specs.Step.{StepResult, stepOf}
+use Rattle.model.specs.NextStore.{nextStoreOf}
 use Rattle.model.specs.Advance.{AdvanceResult, advanceOf}
 use Rattle.replies.specs.declared.Reply.{Reply}
 use Rattle.volume_state.specs.VolumeState.{encodeOf, decodeOf, encodesState}

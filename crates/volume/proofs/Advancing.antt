@@ -7,12 +7,10 @@ use mathlib.Core.Path.{_≡_, refl, sym, ap, _∙_, subst}
 use native.Mathlib.Numerals.{add-one}
 use native.Mathlib.Omega.{arith}
 use lib.Dec.{leb, ltb, eqb}
-use lib.ListN.{length, take, length-append}
-use lib.Seq.{length-take-le}
+use lib.ListN.{length}
 use borrow.Author.Tests.{lt-ltb}
 use Rattle.octets.specs.Choice.{pick}
-use Rattle.octets.specs.Parts.{part}
-use Rattle.octets.specs.Sectors.{sectorAt, putSector}
+use Rattle.octets.specs.Sectors.{putSector}
 use Rattle.octets.proofs.Parts.{length-part}
 use Rattle.model.specs.declared.Advanced.{Advanced}
 use Rattle.model.specs.declared.Layout.{Layout}
@@ -21,7 +19,7 @@ use Rattle.model.specs.declared.Phase.the-variants.{Recovering}
 use Rattle.model.specs.declared.State.{State}
 use Rattle.model.specs.declared.Stepped.{Stepped}
 use Rattle.model.specs.Layout.{mostSectors, entryCount, sectionSize, sectionAt, needed, layoutOk}
-use Rattle.model.specs.Section.{Entry, metadataOf, entryOffset, entryOf}
+use Rattle.model.specs.Section.{Entry, entryOf}
 use Rattle.model.specs.Journal.{sectionOf, replay}
 use Rattle.model.specs.Store.{made, homeStore, storesOf}
 use Rattle.model.specs.Tag.{tagOf}
@@ -32,17 +30,17 @@ use Rattle.model.specs.World.{stepAcknowledges}
 use Rattle.model.specs.Advance.{AdvanceResult, storesIn, oneMore, advanceFrom}
 use Rattle.model.proofs.Addresses.{ranged}
 use Rattle.model.proofs.Advances.{all-same, advance-more}
+use Rattle.model.proofs.Sections.{bytes-length, tag-length}
 use Rattle.model.proofs.Homes.{home-length, home-sections}
 use Rattle.model.proofs.Plans.{home-two}
 use Rattle.section.specs.declared.Location.{Location}
 use Rattle.section.specs.Locations.{Locates}
 use Rattle.journal.specs.Replay.{idsOf, locationAt}
-use Rattle.section.proofs.Entries.{metadata-high, entry-end}
 use Rattle.journal.proofs.Walks.{located, is-there, counted-after, replay-high, ids-kept, location-kept}
 use Rattle.layout.proofs.Sizes.{width-high, section-inside}
 use Rattle.volume_step.specs.Results.{Leaves, recovered}
 use Rattle.volume.specs.Results.{advanced, stepAdded}
-use Rattle.sound.proofs.Sound.{state-layout, fit-room, volume-below}
+use Rattle.model.proofs.States.{state-layout, fit-room, volume-below}
 use Rattle.volume_step.proofs.Making.{home-room, home-put, place-made}
 
 -- ---- one step more
@@ -93,24 +91,6 @@ module _ (last next : Advanced) (x : Stepped) (e : next ≡ stepAdded last x) (v
         reached ∙ sym (all-same (advanceFrom i b) m quiet) ∙ advance-more b i (suc m) ∙ ap (λ (k : ℕ). advanceFrom k b) count
 
 -- ---- a store of a recovery
-
--- an entry that is read from a section
-module _ (t i : ℕ) (small : t ≤ 32) (l : i < entryCount t) (sec : List ℕ) (size : length sec ≡ sectionSize t * 512) where
-  sector-length : (j : ℕ) → j < sectionSize t → length (sectorAt sec j) ≡ 512
-  sector-length j h = length-part sec (j * 512) 512 (omega arith)
-
-  pub bytes-length : length (entryOf t sec i .bytes) ≡ 512
-  unfolding entryOf
-  bytes-length =
-      let low : length (take 504 (sectorAt sec (8 + i))) ≡ 504 = length-take-le 504 (sectorAt sec (8 + i)) (omega (arith, sector-length (8 + i) (omega arith))) in
-      let high : length (part (sectorAt sec (metadataOf t i)) (entryOffset t i + 8) 8) ≡ 8 =
-      length-part (sectorAt sec (metadataOf t i)) (entryOffset t i + 8) 8 (omega (arith, entry-end t i small l, sector-length (metadataOf t i) (omega (arith, metadata-high t i small l)))) in
-      length-append (take 504 (sectorAt sec (8 + i))) (part (sectorAt sec (metadataOf t i)) (entryOffset t i + 8) 8) ∙ omega arith
-
-  pub tag-length : length (entryOf t sec i .tag) ≡ t
-  unfolding entryOf
-  tag-length =
-      length-part (sectorAt sec (metadataOf t i)) (entryOffset t i + 16) t (omega (arith, entry-end t i small l, sector-length (metadataOf t i) (omega (arith, metadata-high t i small l))))
 
 -- the store that x names leaves the volume's length and its sections as they were
 module _ (g : Layout) (ok : layoutOk g ≡ true) (v : List ℕ) (room : needed g * 512 ≤ length v) (x : Location) (l : x .section < g .sections) (h : x .entry < entryCount (g .width)) (half : x .store < 2) where

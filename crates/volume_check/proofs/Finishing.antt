@@ -13,7 +13,6 @@ use Rattle.octets.specs.Choice.{pick, firstMet, Unmet, NoneAnswers}
 use Rattle.octets.specs.Parts.{same}
 use Rattle.octets.specs.Sectors.{sectorAt}
 use Rattle.octets.proofs.Choice.{passes, unmet, met}
-use Rattle.octets.proofs.Parts.{length-part}
 use Rattle.model.specs.declared.Layout.{Layout}
 use Rattle.model.specs.declared.OpenAnswer.the-variants.{Opened}
 use Rattle.model.specs.declared.Phase.{Phase}
@@ -21,8 +20,8 @@ use Rattle.model.specs.declared.Phase.the-variants.{Filling, Recovering}
 use Rattle.model.specs.declared.Refusal.the-variants.{JournalRange, JournalTagMismatch, TagMismatch}
 use Rattle.model.specs.declared.State.{State}
 use Rattle.model.specs.Layout.{entryCount, sectionSize, sectionAt, dataAt, needed, layoutOk}
-use Rattle.model.specs.Section.{unused, entryOf, emptySection, collect}
-use Rattle.model.specs.Journal.{greatestId, sectionOf, Replayed, usedEntry, usedOf, replay}
+use Rattle.model.specs.Section.{emptySection}
+use Rattle.model.specs.Journal.{greatestId, sectionOf, Replayed, replay}
 use Rattle.model.specs.Superblock.{superblockAt, layoutIn}
 use Rattle.model.specs.Store.{made, homeCount, homeStore, Place, storeOf, plan, storesOf}
 use Rattle.model.specs.Tag.{Tag, tagOf, tagAt}
@@ -35,54 +34,23 @@ use Rattle.model.specs.Advance.{AdvanceResult, noStep, stepMade, oneMore, advan
 use Rattle.model.proofs.Addresses.{Ranged, ranged}
 use Rattle.model.proofs.Homes.{home-length, home-sections}
 use Rattle.model.proofs.Invariant.{stateAt}
-use Rattle.model.proofs.Journals.{Every, every-append, every-replay, replay-kept}
+use Rattle.model.proofs.Journals.{Every, replay-kept}
+use Rattle.model.proofs.Plans.{home-two}
+use Rattle.model.proofs.Entries.{Complete, replay-complete, PlaceOf, place-every}
 use Rattle.model.proofs.Sections.{per-pos, length-empty}
-use Rattle.layout.proofs.Sizes.{width-high, section-inside}
+use Rattle.layout.proofs.Sizes.{width-high}
 use Rattle.volume_open.proofs.Queries.{refusal-no-pass, valid-layout}
 use Rattle.volume_step.proofs.Steps.{in-phase}
-use Rattle.volume.proofs.Advancing.{bytes-length, tag-length}
 use Rattle.volume_check.specs.Check.{RecoverResult, recovered, recoverFrom, recoverOf, isBad}
 use Rattle.volume_check.specs.Finishes.{EndsAfter, Ends, BadMeansTag, Finished, Finishes}
 use Rattle.volume_check.specs.declared.RecoverAnswer.the-variants as recovering
 
 -- ---- entries to be replayed
 
--- an entry that has all its bytes
-record Complete (g : Layout) (x : Replayed) : Type 0 where
-  whole : length (x .entry .bytes) ≡ 512
-  sized : length (x .entry .tag) ≡ g .width
-
 -- a complete one for a sector that the volume provides: two stores bring it home
 record Sound (g : Layout) (x : Replayed) : Type 0 where
   low : x .entry .sector < g .provided
   complete : Complete g x
-
-module _ (g : Layout) (ok : layoutOk g ≡ true) (v : List ℕ) (room : needed g * 512 ≤ length v) where
-  -- every used entry of a section is complete
-  used-complete : (k : ℕ) → k < g .sections → Every (Complete g) (usedOf (g .width) k (sectionOf g v k))
-  used-complete k l = all (entryCount (g .width)) (omega arith)
-    where
-      t : ℕ
-      t = g .width
-
-      sec : List ℕ
-      sec = sectionOf g v k
-
-      size : length sec ≡ sectionSize t * 512
-      size = length-part v (sectionAt g k * 512) (sectionSize t * 512) (omega (arith, section-inside g ok (length v) k room l))
-
-      one : (i : ℕ) → i < entryCount t → (b : Bool) → Every (Complete g) (pick b [] (record { section = k; place = i; entry = entryOf t sec i } ∷ []))
-      one i m true = tt
-      one i m false = (record { whole = bytes-length t i (width-high g ok) m sec size; sized = tag-length t i (width-high g ok) m sec size }, tt)
-
-      all : (m : ℕ) → m ≤ entryCount t → Every (Complete g) (collect m (λ i. usedEntry k i (entryOf t sec i)))
-      all zero h = tt
-      all (suc m) h =
-          every-append (Complete g) (collect m (λ i. usedEntry k i (entryOf t sec i))) (usedEntry k m (entryOf t sec m)) (all m (omega arith))
-          (one m (omega arith) (eqb (entryOf t sec m .sector) unused))
-
-  replay-complete : Every (Complete g) (replay g v)
-  replay-complete = every-replay g v (Complete g) (λ k l n. used-complete k l)
 
 -- where open's check of them passed, the volume provides their sectors
 entries-sound : (tag : Tag) (g : Layout) (xs : List Replayed) → Every (Complete g) xs → entriesVerdict tag g xs ≡ passed → Every (Sound g) xs
@@ -102,11 +70,10 @@ abbrev SoundPlace : Layout → Place → Type 0
 SoundPlace g (storeOf x h) = Sound g x × (h < 2)
 
 place-sound : (g : Layout) (xs : List Replayed) → Every (Sound g) xs → (k : ℕ) → k < storesOf g xs → SoundPlace g (getD (plan g xs) k noPlace)
-unfolding homeCount
-place-sound g [] p k l = absurd (omega arith)
-place-sound g (x ∷ xs) p zero l = (p .0, omega arith)
-place-sound g (x ∷ xs) p (suc zero) l = (p .0, omega arith)
-place-sound g (x ∷ xs) p (suc (suc k)) l = place-sound g xs (p .1) k (omega arith)
+place-sound g xs p k l = go (getD (plan g xs) k noPlace) (place-every g (Sound g) xs p k l)
+  where
+    go : (q : Place) → PlaceOf g (Sound g) q → SoundPlace g q
+    go (storeOf x h) s = (s .0, omega (arith, s .1, home-two g (x .entry)))
 
 -- two stores to an entry
 stores-twice : (g : Layout) (xs : List Replayed) → storesOf g xs ≡ 2 * length xs
@@ -318,7 +285,7 @@ module _ (tag : Tag) (r : ℕ) (v st : List ℕ) where
     v-room = ltb-false (length v) (needed g * 512) (rows-passed .0 .1 .1 .1 .1 .1 .0)
 
     v-entries : Every (Sound g) (replay g v)
-    v-entries = entries-sound tag g (replay g v) (replay-complete g g-ok v v-room) (rows-passed .1)
+    v-entries = entries-sound tag g (replay g v) (replay-complete g (ranged g g-ok) v v-room) (rows-passed .1)
 
     opens : openOf tag r v st ≡ openBy g v st passed
     unfolding openWith

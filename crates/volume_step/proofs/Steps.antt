@@ -25,11 +25,12 @@ use Rattle.model.specs.Journal.{sectionOf, replay}
 use Rattle.model.specs.Store.{Store, one, homeCount, homeStore, Place, storesOf}
 use Rattle.model.specs.State.{passed, refused, stateOk, volumeOk, stagingOk}
 use Rattle.model.specs.Flush.{inPhase}
-use Rattle.model.specs.Step.{StepResult, placeAt, rangeRows, commitStore, commitStep, homeStep, writeBackStep, recoverPlace, phaseStep, stepBy, stepOf, nextStoreOf}
+use Rattle.model.specs.Step.{StepResult, placeAt, rangeRows, commitStore, commitStep, homeStep, writeBackStep, recoverPlace, phaseStep, stepBy, stepOf}
+use Rattle.model.specs.NextStore.{nextStoreOf}
 use Rattle.section.specs.declared.Location.{Location}
 use Rattle.section.specs.Locations.{Locates}
 use Rattle.volume_step.specs.Results.{recovered, Fills}
-use Rattle.sound.proofs.Sound.{volume-replay}
+use Rattle.model.proofs.States.{volume-replay}
 
 -- ---- a step that makes a store
 

@@ -4,15 +4,14 @@
 -- Leaves v o r v′ st′    : a step on the volume v handed back r and left the volume v′ and the staging loan st′, as its result o says
 -- Fills out o r out′ st′ : a call that leaves the store to be made handed back r, and left out′ in the loan for the content, which held out, and the
 --                          staging loan st′, as its result o says
--- storedBy v a c         : the volume v with the content c stored at the sector that the answer a names, if it names one
--- Inside v a             : that sector, if there is one, lies in the volume v
+-- Inside v a             : the sector that the answer a names, if any, lies in the volume v
 use Prim.Native.Nat.{ℕ, _+_, _*_, _≤_}
 use mathlib.Core.Bool.{Bool}
 use mathlib.Core.List.{List}
 use mathlib.Core.Path.{_≡_}
 use lib.ListN.{length}
 use Rattle.octets.specs.Choice.{pick}
-use Rattle.octets.specs.Sectors.{sectorSize, putSector}
+use Rattle.octets.specs.Sectors.{sectorSize}
 use Rattle.model.specs.Flush.{inPhase}
 use Rattle.model.specs.Store.{afterEffect, contentOf}
 use Rattle.model.specs.Step.{StepResult}
@@ -39,11 +38,6 @@ pub record Fills (out : List ℕ) (o : StepResult) (r : Stepped) (out′ st′ :
   pub returned : r ≡ record { answer = o .answer; state = o .state }
   pub content : out′ ≡ contentOf out (o .effect)
   pub staging : st′ ≡ o .staging
-
-abbrev pub storedBy : List ℕ → StepAnswer → List ℕ → List ℕ
-storedBy v (answers.Stepped Idle x) c = v
-storedBy v (answers.Stepped (Stored at) x) c = putSector v at c
-storedBy v (answers.Refused r) c = v
 
 abbrev pub Inside : List ℕ → StepAnswer → Type 0
 Inside v (answers.Stepped Idle x) = Unit {0}

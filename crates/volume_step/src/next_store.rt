@@ -22,7 +22,8 @@ ghost use lib.Dec.{leb};
 ghost use lib.ListN.{length};
 ghost use Rattle.model.specs.Layout.{sectionSize, needed, layoutOk};
 ghost use Rattle.model.specs.State.{lastId, volumeLoanOk, stateOk, volumeOk, stagingOk};
-ghost use Rattle.model.specs.Step.{commitStep, stepOf, nextStoreOf};
+ghost use Rattle.model.specs.Step.{commitStep, stepOf};
+ghost use Rattle.model.specs.NextStore.{nextStoreOf};
 ghost use Rattle.volume_step.specs.Results.{Fills};
 
 // Sector j of the section, with the id put in; by the last the batch is acknowledged.

@@ -6,7 +6,8 @@ ghost use mathlib.Core.Path.{_≡_};
 ghost use Prim.Native.Nat.{_+_, _*_, _≤_};
 ghost use lib.ListN.{length};
 ghost use Rattle.octets.specs.Sectors.{putSector};
-ghost use Rattle.volume_step.specs.Results.{storedBy, Inside};
+ghost use Rattle.model.specs.NextStore.{storeNamed};
+ghost use Rattle.volume_step.specs.Results.{Inside};
 
 // Stores a sector. No other line of the library writes to a volume that has been formatted.
 pub fn put(v: &mut [u8], at: usize, content: &[u8; SECTOR_SIZE])
@@ -19,7 +20,7 @@ pub fn put(v: &mut [u8], at: usize, content: &[u8; SECTOR_SIZE])
 // Makes the store that a step's answer names.
 pub(crate) fn make(v: &mut [u8], answer: StepAnswer, content: &[u8; SECTOR_SIZE])
     requires { ⌜ Inside (now v) answer ⌝ }
-    ensures { λ r. ⌜ now (v .exit) ≡ storedBy (now (v .entry)) answer (now (content .entry)) ⌝ }
+    ensures { λ r. ⌜ now (v .exit) ≡ storeNamed (now (v .entry)) answer (now (content .entry)) ⌝ }
 {
     let StepAnswer::Stepped(done, _) = answer else {
         return;

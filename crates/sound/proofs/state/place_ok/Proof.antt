@@ -1,5 +1,5 @@
 use borrow.Author.Needs.{needs}
-use Rattle.sound.proofs.Sound.{place-committing}
+use Rattle.model.proofs.States.{place-committing}
 use Rattle.layout.proofs.Sizes.{width-high}
 use Rattle.sound.proofs.state.place_ok.Statement.{statement}
 use Rattle.sound.proofs.state.place_ok.Tie as tie

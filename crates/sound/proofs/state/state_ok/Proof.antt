@@ -2,7 +2,7 @@ use mathlib.Core.Path.{sym, _∙_}
 use borrow.Author.Tests.{not-true, not-false}
 use borrow.Author.Needs.{needs}
 use Rattle.layout.proofs.Sizes.{width-high}
-use Rattle.sound.proofs.Sound.{state-no, state-yes}
+use Rattle.model.proofs.States.{state-no, state-yes}
 use Rattle.sound.proofs.state.state_ok.Statement.{statement}
 use Rattle.sound.proofs.state.state_ok.Tie as tie
 

@@ -1,7 +1,7 @@
 use mathlib.Core.Path.{sym, _∙_}
 use borrow.Author.Tests.{not-true, not-false}
 use borrow.Author.Needs.{needs}
-use Rattle.sound.proofs.Sound.{state-layout, volume-unfit, volume-fit, fit-room}
+use Rattle.model.proofs.States.{state-layout, volume-unfit, volume-fit, fit-room}
 use Rattle.sound.proofs.state.volume_ok.Statement.{statement}
 use Rattle.sound.proofs.state.volume_ok.Tie as tie
 

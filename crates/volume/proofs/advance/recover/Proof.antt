@@ -1,7 +1,7 @@
 use mathlib.Core.Path.{refl, sym, _∙_}
 use borrow.Author.Needs.{needs}
 use borrow.Author.Tests.{not-false}
-use Rattle.sound.proofs.Sound.{state-layout, fit-room}
+use Rattle.model.proofs.States.{state-layout, fit-room}
 use Rattle.volume.proofs.Advancing.{unmoved}
 use Rattle.volume.proofs.advance.recover.Statement.{statement}
 use Rattle.volume.proofs.advance.recover.Tie as tie

@@ -4,7 +4,7 @@ use native.Mathlib.Omega.{arith}
 use lib.ListN.{length}
 use borrow.Author.Needs.{needs}
 use Rattle.model.specs.declared.Advanced.{Advanced}
-use Rattle.sound.proofs.Sound.{state-layout, fit-room}
+use Rattle.model.proofs.States.{state-layout, fit-room}
 use Rattle.volume.proofs.Advancing.{Underway, begins, ok-here, continues, is-next, there, low, half, store-inside, again, nothing-made, steps-made}
 use Rattle.volume.proofs.advance.replay_from.Statement.{statement}
 use Rattle.volume.proofs.advance.replay_from.Tie as tie

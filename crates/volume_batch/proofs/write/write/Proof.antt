@@ -7,7 +7,7 @@ use borrow.Author.Tests.{not-true, not-false}
 use borrow.Author.Needs.{needs}
 use Rattle.model.specs.Section.{putEntry}
 use Rattle.layout.proofs.Sizes.{width-high}
-use Rattle.sound.proofs.Sound.{state-layout, staging-length}
+use Rattle.model.proofs.States.{state-layout, staging-length}
 use Rattle.model.specs.Tag.{tagOf}
 use Rattle.volume_batch.proofs.Writes.{unsound, wrong-staging, wrong-sector, busy, out-of-range, full, taken}
 use Rattle.volume_batch.proofs.write.write.Statement.{statement}

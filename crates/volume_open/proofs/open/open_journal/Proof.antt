@@ -3,7 +3,7 @@ use borrow.Author.Needs.{needs}
 use borrow.Author.Tests.{not-true, not-false}
 use Rattle.layout.proofs.Sizes.{width-high, sections-low}
 use Rattle.model.specs.Tag.{tagOf}
-use Rattle.sound.proofs.Sound.{staging-length}
+use Rattle.model.proofs.States.{staging-length}
 use Rattle.volume_open.proofs.Opens.{wrong-staging, exhausted, section-misplaced, entry-refused, opened}
 use Rattle.volume_open.proofs.open.open_journal.Statement.{statement}
 use Rattle.volume_open.proofs.open.open_journal.Tie as tie

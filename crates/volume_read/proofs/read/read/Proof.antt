@@ -5,7 +5,7 @@ use borrow.Author.Needs.{needs}
 use Rattle.model.proofs.Addresses.{ranged, data-room}
 use Rattle.model.specs.Tag.{tagOf}
 use Rattle.layout.proofs.Sizes.{width-high, provided-high}
-use Rattle.sound.proofs.Sound.{state-layout, state-count, staging-length, volume-room}
+use Rattle.model.proofs.States.{state-layout, state-count, staging-length, volume-room}
 use Rattle.volume_read.proofs.Reading.{unsound, wrong-volume, wrong-staging, wrong-loan, not-now, out-of-range, found-staged, mismatch, found-home, sector-copied}
 use Rattle.volume_read.proofs.read.read.Statement.{statement}
 use Rattle.volume_read.proofs.read.read.Tie as tie

@@ -2,7 +2,7 @@ use mathlib.Core.Path.{refl, sym, _∙_}
 use native.Mathlib.Omega.{arith}
 use borrow.Author.Tests.{not-true, not-false}
 use Rattle.model.specs.declared.Phase.the-variants.{Filling}
-use Rattle.sound.proofs.Sound.{state-layout, state-id, state-committing, staging-length, volume-unfit, volume-in}
+use Rattle.model.proofs.States.{state-layout, state-id, state-committing, staging-length, volume-unfit, volume-in}
 use Rattle.volume_step.proofs.Steps.{wrong-loan, lent, unsound, wrong-volume, wrong-staging, runs, idles}
 use borrow.Author.Needs.{needs}
 use Rattle.volume_step.proofs.next_store.next_store.Statement.{statement}

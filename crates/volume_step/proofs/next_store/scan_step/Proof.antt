@@ -2,7 +2,7 @@ use Prim.Native.Nat.{_<_}
 use mathlib.Core.Path.{refl}
 use native.Mathlib.Omega.{arith}
 use Rattle.journal.proofs.Walks.{located, located-past, is-there, counted-after}
-use Rattle.sound.proofs.Sound.{state-layout, fit-room, volume-below, volume-past}
+use Rattle.model.proofs.States.{state-layout, fit-room, volume-below, volume-past}
 use Rattle.volume_step.proofs.Steps.{wrong-volume}
 use borrow.Author.Needs.{needs}
 use Rattle.volume_step.proofs.next_store.scan_step.Statement.{statement}

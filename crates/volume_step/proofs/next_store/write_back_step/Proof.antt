@@ -1,6 +1,6 @@
 use native.Mathlib.Omega.{arith}
 use Rattle.layout.proofs.Sizes.{width-high}
-use Rattle.sound.proofs.Sound.{state-layout, state-writing-back, staging-length, volume-room}
+use Rattle.model.proofs.States.{state-layout, state-writing-back, staging-length, volume-room}
 use Rattle.volume_step.proofs.Steps.{staged-range, same-entry, next-entry, last-entry}
 use borrow.Author.Needs.{needs}
 use Rattle.volume_step.proofs.next_store.write_back_step.Statement.{statement}

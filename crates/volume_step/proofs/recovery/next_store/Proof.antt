@@ -8,7 +8,7 @@ use Rattle.model.specs.Store.{homeStore}
 use Rattle.model.proofs.Plans.{home-two}
 use Rattle.layout.proofs.Sizes.{width-high}
 use Rattle.journal.proofs.Walks.{replay-high}
-use Rattle.sound.proofs.Sound.{state-layout, volume-room, volume-replay}
+use Rattle.model.proofs.States.{state-layout, volume-room, volume-replay}
 use Rattle.volume_step.proofs.Steps.{journal-range, place-told}
 use borrow.Author.Needs.{needs}
 use Rattle.volume_step.proofs.recovery.next_store.Statement.{statement}
