@@ -341,10 +341,12 @@ uint32_t gaffreel_volume_step(uint8_t *state, size_t state_length, uint8_t *volu
  * place and not stored to, as flash. Where the answer says that a sector is stored, `bytes` has what that sector of the
  * volume is to hold; else `bytes` is as it was. Answer: as of gaffreel_volume_step.
  *
- * State and staging are those after the step. So store `bytes` at the sector that the answer names before any other call,
- * and take what the step says (acknowledged, filling) as said only then. A store that fails can be made again, any number of
- * times: keep `bytes` and the answer until it is made. Where it cannot be made, give up state and staging and open the volume
- * again, as after a cut of power: the step is then one that was never made.
+ * State and staging are those after the step. So the caller
+ *   - makes the store, `bytes` at the sector that the answer names, before any other call;
+ *   - passes acknowledged or filling on only then;
+ *   - where the store fails, makes the same store again, and so keeps `bytes` and the answer until it is made;
+ *   - where it cannot be made, throws state and staging away and opens the volume: that is a power cut before the step.
+ * A sector that is left half written is outside what is promised.
  *
  * Refused as gaffreel_volume_step is; GAFFREEL_LENGTH_OR_LIMIT also where `bytes` is not GAFFREEL_VOLUME_SECTOR_SIZE long.
  */

@@ -63,6 +63,10 @@ static uint32_t step(void) {
     return gaffreel_volume_step(state, STATE, volume, VOLUME, staging, STAGING, answer, ANSWER);
 }
 
+static uint32_t next_store(void) {
+    return gaffreel_volume_next_store(state, STATE, volume, VOLUME, staging, STAGING, bytes, SECTOR, answer, ANSWER);
+}
+
 static uint32_t advance(size_t steps) {
     return gaffreel_volume_advance(state, STATE, volume, VOLUME, staging, STAGING, steps, answer, ANSWER);
 }
@@ -136,6 +140,39 @@ static void test_stores(void) {
     assert(step() == GAFFREEL_DONE);
     assert_answer(0, 0, GAFFREEL_VOLUME_SAYS_FILLING);
     assert_reads(WRITTEN, 1);
+}
+
+/* The same stores, told by next_store and made here; beside each, the step on a copy of volume, state and staging. */
+static void test_next_stores(void) {
+    static uint8_t copy[VOLUME], copied_staging[STAGING];
+    uint8_t copied_state[STATE], told[ANSWER];
+    size_t stores;
+    begin();
+    assert(write_sector(WRITTEN, 1) == GAFFREEL_DONE);
+    assert(flush() == GAFFREEL_DONE);
+    for (stores = 0; stores <= STORES; stores++) {
+        memcpy(copy, volume, VOLUME);
+        memcpy(copied_staging, staging, STAGING);
+        memcpy(copied_state, state, STATE);
+        memset(bytes, MARK, SECTOR);
+        assert(next_store() == GAFFREEL_DONE);
+        assert(memcmp(copy, volume, VOLUME) == 0);
+        if (number_at(answer, 0) == 1) {
+            memcpy(volume + number_at(answer, 8) * SECTOR, bytes, SECTOR);
+        } else {
+            assert(stores == STORES);
+            assert_untouched(bytes, SECTOR);
+        }
+        memcpy(told, answer, ANSWER);
+        assert(gaffreel_volume_step(copied_state, STATE, copy, VOLUME, copied_staging, STAGING, answer, ANSWER)
+               == GAFFREEL_DONE);
+        assert(memcmp(told, answer, ANSWER) == 0 && memcmp(copied_state, state, STATE) == 0);
+        assert(memcmp(copy, volume, VOLUME) == 0 && memcmp(copied_staging, staging, STAGING) == 0);
+    }
+    assert_reads(WRITTEN, 1);
+    assert(gaffreel_volume_next_store(state, STATE, volume, VOLUME, staging, STAGING, bytes, SECTOR - 1, answer, ANSWER)
+           == GAFFREEL_LENGTH_OR_LIMIT);
+    assert_answer(0, 0, 0);
 }
 
 /* "A cut after 87 stores keeps nothing of it, after 88 all of it", and so on for every other number of stores. */
@@ -248,6 +285,7 @@ int main(void) {
     test_query();
     test_full();
     test_stores();
+    test_next_stores();
     test_cuts();
     test_refusals();
     test_refused_advance();
