@@ -10,10 +10,22 @@
  *
  * What the caller has to see to, since a C compiler cannot tell:
  *   - A pointer and the length after it are those of one buffer, in bytes, which nobody else writes to during the call.
- *   - A buffer that a call writes to (a pointer without const) overlaps no other buffer of that call.
+ *   - A buffer that a call writes to (a pointer without const) overlaps no other buffer of that call; what a call does
+ *     otherwise is not defined.
  *   - A pointer may be NULL only where its length is 0. Nothing is then read or written through it, and the call answers
- *     as for any buffer of length 0: an empty message, piece or salt is taken, any other is refused.
+ *     as for any buffer of length 0.
  *   - No alignment is asked.
+ *
+ * What is assumed of the medium and the firmware, without which a power cut can lose an acknowledged batch:
+ *   - Each sector that a step names is on the medium, whole, before the next call. Acknowledged counts from the moment that
+ *     the sector named with it is there. A sector half written, or stores that land in another order, are not covered.
+ *   - Only steps store to a formatted volume. Format is not covered: after a cut during it the volume is formatted anew.
+ *   - After a cut state and staging are thrown away and the volume is opened, with the reserved sectors it was formatted with.
+ *   - A state and its staging belong to one open volume and to its calls in order, and are never gone back to.
+ *   - gaffreel_volume_advance names only its last sector: it is for a medium that the lent bytes are, as mapped memory;
+ *     for a copy of the medium there are gaffreel_volume_step and gaffreel_volume_next_store.
+ * What is proved holds of the source, on the language's abstract machine; trusted are the prover, the compiler behind it,
+ * memcpy and memset, and that the stack suffices.
  *
  * The archive is for x86-64 with the System V calling convention, and uses SSE2 registers. It needs two symbols from
  * outside, memcpy and memset; it has no writable data, and takes no memory but the stack. So it links into a
@@ -60,8 +72,8 @@
  *         return digest[0] == 0xba && digest[31] == 0xad ? 0 : 1;
  *     }
  *
- * A volume of 16 sectors made, opened and written to, and what was written read back. Power may fail between any two steps:
- * the next open finds either the whole batch or nothing of it.
+ * A volume of 16 sectors made, opened and written to, and what was written read back. Power may fail between any two steps,
+ * each step's sector being on the medium: the next open finds either the whole batch or nothing of it.
  *
  *     #include "gaffreel.h"
  *
@@ -209,8 +221,9 @@ uint32_t gaffreel_sha256_finish(const uint8_t *state, size_t state_length, uint8
  * store: first to the journal, then, from the acknowledgement on, to the sectors themselves. After a power cut an open
  * finds what is to be replayed, and steps replay it.
  *
- * Between two calls the caller keeps a state, in a buffer of its own, and the staging buffer. All numbers in the buffers
- * below are little-endian and have 8 bytes.
+ * Between two calls the caller keeps a state, in a buffer of its own, and the staging buffer. With tags of 8, 16 or 32 bytes
+ * staging has 168, 128 or 88 sectors, and a batch takes 160, 120 or 80 writes. All numbers in the buffers below are
+ * little-endian and have 8 bytes.
  */
 
 /* The length of a sector, in bytes. */
@@ -225,8 +238,9 @@ uint32_t gaffreel_sha256_finish(const uint8_t *state, size_t state_length, uint8
 
 /*
  * The length of a state, in bytes: a layout, at 0; the phase, at 40; the two numbers of its place, at 48 and 56; the entries
- * of the batch, at 64; the next commit id, at 72. A state may be copied and stored. Bytes hold no state where the phase is
- * none of enum gaffreel_volume_phase, or where a number of the place that the phase lacks is not 0.
+ * of the batch, at 64; the next commit id, at 72. It is good for one open volume, and an earlier one is never gone back to: a
+ * batch committed from it would share its id with another. Bytes hold no state where the phase is none of enum
+ * gaffreel_volume_phase, or where a number of the place that the phase lacks is not 0.
  */
 #define GAFFREEL_VOLUME_STATE_SIZE 80
 
@@ -253,14 +267,16 @@ enum gaffreel_volume_phase {
 /* What a step says besides. */
 enum gaffreel_volume_says {
     GAFFREEL_VOLUME_SAYS_NOTHING = 0,
-    /* The batch is acknowledged: it is on the volume, whatever happens next. */
+    /* The batch is acknowledged: once the sector that is named with it is on the medium, a power cut keeps it. */
     GAFFREEL_VOLUME_SAYS_ACKNOWLEDGED = 1,
     /* The volume is filling. */
     GAFFREEL_VOLUME_SAYS_FILLING = 2
 };
 
 /*
- * Makes a volume of zeros with every tag in place. It is not safe against a power cut.
+ * Makes a volume whose sectors hold zeros, every tag in place: `shift` is the base-two logarithm of the sectors of a run,
+ * `width` the bytes of a tag. Reserved sectors and what lies behind the layout keep their bytes. A power cut is not covered:
+ * the volume is then formatted anew, its superblock made zero first.
  *
  * Refused, in this order, with
  *   - GAFFREEL_LENGTH_OR_LIMIT where answer_length is not GAFFREEL_VOLUME_ANSWER_SIZE, or the volume is not whole sectors or
@@ -321,7 +337,7 @@ uint32_t gaffreel_volume_write(uint8_t *state, size_t state_length, uint8_t *sta
  * Refused, in this order, with
  *   - GAFFREEL_LENGTH_OR_LIMIT where a buffer has a wrong length, or the state is not sound;
  *   - GAFFREEL_NOT_NOW;
- *   - GAFFREEL_EXHAUSTED where the batch is not empty.
+ *   - GAFFREEL_EXHAUSTED where the batch is not empty and the next commit id is 2^64 - 1, which is given to none.
  */
 uint32_t gaffreel_volume_flush(uint8_t *state, size_t state_length, uint8_t *answer, size_t answer_length);
 

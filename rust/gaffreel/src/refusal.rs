@@ -186,7 +186,7 @@ impl fmt::Display for Refusal {
             ),
             Refusal::SuperblockNotValid => f.write_str(
                 "the superblock is not valid: \
-                 check the number of reserved sectors, or restore the superblock from a good copy",
+                 check the number of reserved sectors, or restore the whole volume from a good copy",
             ),
             Refusal::VolumeTooShort { needed } => write!(
                 f,
@@ -203,7 +203,7 @@ impl fmt::Display for Refusal {
             Refusal::JournalSector { section, entry } => write!(
                 f,
                 "entry {entry} of the journal's section {section} names a sector that the volume does not provide: \
-                 restore the journal from a good copy"
+                 restore the whole volume, not its journal alone, from a good copy"
             ),
             Refusal::Tag { sector } => write!(
                 f,
@@ -213,7 +213,7 @@ impl fmt::Display for Refusal {
             Refusal::JournalTag { section, entry } => write!(
                 f,
                 "the tag of entry {entry} of the journal's section {section} does not fit its data: \
-                 restore the journal from a good copy"
+                 restore the whole volume, not its journal alone, from a good copy"
             ),
             Refusal::BatchFull => f.write_str(
                 "the batch is full: flush it and step until the volume is filling",
@@ -227,7 +227,7 @@ impl fmt::Display for Refusal {
             Refusal::SectionMisplaced { section } => write!(
                 f,
                 "the journal's section {section} belongs in another place: \
-                 restore the journal from a good copy"
+                 restore the whole volume, not its journal alone, from a good copy"
             ),
             Refusal::Mismatch { level: -1 } => f.write_str(
                 "the data block is not the one that the tree has at this index: \

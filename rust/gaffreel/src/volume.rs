@@ -99,7 +99,7 @@ pub struct Stepped {
 pub enum Said {
     /// Nothing.
     Nothing,
-    /// The batch is acknowledged: it survives a cut.
+    /// The batch is acknowledged: once the sector that is named with it is on the medium, it survives a cut.
     Acknowledged,
     /// The volume is filling.
     Filling,
@@ -247,7 +247,8 @@ pub fn next_store(
 }
 
 /// Takes so many steps, one after the other. From the first on that stores nothing, all give the same: so a number
-/// above the stores still to come finishes a recovery, or a commit and its write-back.
+/// above the stores still to come finishes a recovery, or a commit and its write-back. It names only the last sector
+/// stored: for a copy of the medium, to which every sector goes on its own, there are [`step`] and [`next_store`].
 ///
 /// After a refusal state, volume and staging are as the steps before the refused one left them, and [`Stopped`] says how
 /// many stores they made and whether one acknowledged the batch.

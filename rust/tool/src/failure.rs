@@ -82,7 +82,7 @@ impl Failure {
                 .into(),
             Refusal::VolumeTooShort { needed } if needed > MOST_SECTORS as u64 => format!(
                 "the layout needs {needed} sectors, and no volume has more than {MOST_SECTORS}: \
-                 check the number of reserved sectors, or restore the superblock from a good copy"
+                 check the number of reserved sectors, or restore the whole image from a good copy"
             ),
             other => other.to_string(),
         };
