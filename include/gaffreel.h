@@ -39,17 +39,17 @@
  *     gaffreel_sha256_update      1,600
  *     gaffreel_sha256_finish      1,792
  *     gaffreel_volume_format      3,136
- *     gaffreel_volume_query         192
+ *     gaffreel_volume_query         256
  *     gaffreel_volume_open        3,648
  *     gaffreel_volume_write       2,624
  *     gaffreel_volume_flush         640
- *     gaffreel_volume_step        2,240
+ *     gaffreel_volume_step        2,304
  *     gaffreel_volume_next_store  1,728
- *     gaffreel_volume_advance     4,096
+ *     gaffreel_volume_advance     3,712
  *     gaffreel_volume_read        3,200
  *     gaffreel_tree_length           64
  *     gaffreel_tree_build         2,816
- *     gaffreel_tree_verify        2,496
+ *     gaffreel_tree_verify        2,560
  *
  * An interrupt taken on the same stack comes on top, and must leave the 128 bytes below the stack pointer as they are: the
  * archive uses them, as the calling convention allows (the red zone).
