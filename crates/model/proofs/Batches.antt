@@ -1,9 +1,9 @@
 -- Writes and flushes keep the invariant.
-use Prim.Native.Nat.{ℕ, zero, suc, _+_, _^_, _<_}
+use Prim.Native.Nat.{ℕ, zero, suc, _+_, _-_, _^_, _<_}
 use mathlib.Core.Bool.{Bool, true, false, not, _&&_}
 use mathlib.Core.Path.{_≡_, refl, sym, ap, _∙_, subst}
 use mathlib.Core.Logic.{_≢_}
-use mathlib.Core.List.{List}
+use mathlib.Core.List.{List, [], _∷_}
 use native.Mathlib.Omega.{arith}
 use native.Mathlib.Numerals.{add-one}
 use native.Mathlib.Decide.{ℕ-discrete}
@@ -194,7 +194,7 @@ module _ (tag : Tag) (g : Layout) (v₀ : List ℕ) (X : Setting tag g v₀) whe
       rw (z, eq-eqb cnt 0 q)
       (record {
         lives = filling cnt m st D
-            (record { staged = A .staged; batch = A .batch; due = rw (eq-eqb (length (l .batch)) 0 n); next = A .next; clean = A .clean });
+            (record { staged = A .staged; batch = A .batch; due = rw (eq-eqb (length (l .batch)) 0 n) (A .due); next = A .next; clean = A .clean });
         fills = λ q. never q;
       })
 
@@ -203,7 +203,9 @@ module _ (tag : Tag) (g : Layout) (v₀ : List ℕ) (X : Setting tag g v₀) whe
   unfolding flushOf
   flush-begins v l cnt m st D A z q =
       let n : length (l .batch) ≢ 0 = λ x. q (sym (length-batch (g .width) st cnt) ∙ ap length (A .batch) ∙ x) in
-      let d : pick (eqb (length (l .batch)) 0) 0 (sectionSize (g .width)) + 0 ≡ sectionSize (g .width) = rw (ne-eqb (length (l .batch)) 0 n) (omega arith) in
+      let m₀ : ℕ = sectionSize (g .width) in
+      let d : pick (eqb (length (l .batch)) 0) (l .due) (m₀ ∷ l .due) ≡ (m₀ - 0) ∷ [] =
+      rw (ne-eqb (length (l .batch)) 0 n) (ap (λ (ns : List ℕ). m₀ ∷ ns) (A .due) ∙ ap (λ (x : ℕ). x ∷ []) {x = m₀} {y = m₀ - 0} (omega arith)) in
       let id : m ≢ lastId = flush-id cnt m (omega arith) z in
       rw (z, ne-eqb cnt 0 q)
       (record {

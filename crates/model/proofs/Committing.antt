@@ -3,7 +3,7 @@ use Prim.Native.Nat.{ℕ, _+_, _-_, _*_, _%_, _≤_, _<_}
 use mathlib.Core.Bool.{true}
 use mathlib.Core.Path.{_≡_, refl, sym, ap, _∙_, subst}
 use mathlib.Core.Logic.{_≢_}
-use mathlib.Core.List.{List, []}
+use mathlib.Core.List.{List, [], _∷_}
 use native.Mathlib.Omega.{arith}
 use native.Mathlib.Decide.{ℕ-discrete}
 use native.Mathlib.Nat.{mod-lt}
@@ -68,7 +68,7 @@ module _ (tag : Tag) (g : Layout) (v₀ : List ℕ) (X : Setting tag g v₀)
             subst (Landed tag g v₀ (A .u) st m (j + 1) i) (sym (elsewhere (slot tag g v₀ m + i) (omega arith)))
             (more i (sectorAt v (slot tag g v₀ m + i)) (A .torn .each i h))
 
-    pub commit-goes : (l′ : Ledger) → l .contents ≡ l′ .contents → l .batch ≡ l′ .batch → l′ .due + 1 ≡ l .due
+    pub commit-goes : (l′ : Ledger) → l .contents ≡ l′ .contents → l .batch ≡ l′ .batch → l′ .due ≡ (sectionSize (g .width) - (j + 1)) ∷ []
         → AtCommit tag g v₀ w l′ n m (j + 1) st
     commit-goes l′ ec eb ed =
         record {
@@ -77,7 +77,7 @@ module _ (tag : Tag) (g : Layout) (v₀ : List ℕ) (X : Setting tag g v₀)
           some = A .some;
           given = A .given;
           place = omega arith;
-          due = omega (arith, A .due);
+          due = ed;
           u = A .u;
           disk = rw ec at (A .disk);
           clean = rw ec at (A .clean);
@@ -100,7 +100,7 @@ module _ (tag : Tag) (g : Layout) (v₀ : List ℕ) (X : Setting tag g v₀)
         subst (λ (b : List Write). Disk tag g v₀ v (entered (l .contents) b)) (A .batch)
         (whole-disk tag g v₀ X (A .u) (l .contents) (A .disk) (A .clean) n m st (A .staged) (A .given) (A .next) j v (A .torn) all)
 
-    pub seal-ends : (l′ : Ledger) → l′ .contents ≡ entered (l .contents) (l .batch) → l′ .batch ≡ [] → l′ .due ≡ 0
+    pub seal-ends : (l′ : Ledger) → l′ .contents ≡ entered (l .contents) (l .batch) → l′ .batch ≡ [] → l′ .due ≡ []
         → AtHome tag g v₀ v l′ n (m + 1) 0 0 st
     seal-ends l′ ec eb ed =
         record {

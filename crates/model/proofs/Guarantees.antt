@@ -1,9 +1,9 @@
 -- What holds beside demand 3: each fact from the invariant that holds after every list of calls and cuts.
-use Prim.Native.Nat.{ℕ, zero, suc, _+_, _*_, _≤_, _<_}
-use mathlib.Core.Bool.{Bool, true, false}
+use Prim.Native.Nat.{ℕ, zero, suc, _+_, _-_, _*_, _≤_, _<_}
+use mathlib.Core.Bool.{Bool, true, false, _||_}
 use mathlib.Core.Path.{_≡_, refl, sym, ap, _∙_, subst}
 use mathlib.Core.Logic.{_≢_, inr}
-use mathlib.Core.List.{List, _∷_}
+use mathlib.Core.List.{List, [], _∷_}
 use native.Mathlib.Omega.{arith}
 use native.Mathlib.Decide.{decLt, ℕ-discrete}
 use lib.ListN.{length, replicate}
@@ -22,7 +22,7 @@ use Rattle.model.specs.Tag.{Tag, tagOf}
 use Rattle.model.specs.Store.{storesOf}
 use Rattle.model.specs.State.{stagingOk, passed}
 use Rattle.model.specs.Step.{StepResult, commitStep, homeStep, phaseStep, stepOf}
-use Rattle.model.specs.Ledger.{Ledger, start, entersNext}
+use Rattle.model.specs.Ledger.{hasLast, Ledger, start, entersNext}
 use Rattle.model.specs.World.{off, on, World, stepTaken, stepAcknowledges, stepSettles, openTaken, anOpen, aStep, begin, next, after}
 use Rattle.model.proofs.Addresses.{base-room, data-room, tag-room, tag-inside, tag-sector}
 use Rattle.model.proofs.Plans.{at-get}
@@ -66,21 +66,23 @@ home-settles s v st e h false p left = refl
 abbrev Answers : Ledger → StepResult → Type 0
 Answers l o = (stepTaken (o .answer) ≡ true) × (stepAcknowledges (o .answer) ≡ entersNext l)
 
-home-answers : (l : Ledger) → l .due ≡ 0 → (s : State) (v st : List ℕ) (e : Entry) (h : ℕ) (last : Bool) (p : Phase) (left : List ℕ)
+home-answers : (l : Ledger) → l .due ≡ [] → (s : State) (v st : List ℕ) (e : Entry) (h : ℕ) (last : Bool) (p : Phase) (left : List ℕ)
     → Answers l (homeStep s v st e h last p left)
 home-answers l d s v st e h last p left =
     let a = home-taken s v st e h last p left in
-    (a .0, a .1 ∙ sym (ne-eqb (l .due) 1 (omega arith)))
+    (a .0, a .1 ∙ sym (ap hasLast d))
 
-commit-answers : (l : Ledger) (s : State) (v st : List ℕ) (j : ℕ) → l .due + j ≡ sectionSize (s .layout .width) → j < sectionSize (s .layout .width)
+commit-answers : (l : Ledger) (s : State) (v st : List ℕ) (j : ℕ) → l .due ≡ (sectionSize (s .layout .width) - j) ∷ [] → j < sectionSize (s .layout .width)
     → Dec (j + 1 < sectionSize (s .layout .width)) → Answers l (commitStep s v st j)
 unfolding commitStep
-commit-answers l s v st j d p (yes q) = rw (lt-ltb (j + 1) (sectionSize (s .layout .width)) q) (refl, sym (ne-eqb (l .due) 1 (omega arith)))
-commit-answers l s v st j d p (no q) = rw (le-ltb (j + 1) (sectionSize (s .layout .width)) (omega arith)) (refl, sym (eq-eqb (l .due) 1 (omega arith)))
+commit-answers l s v st j d p (yes q) = rw (lt-ltb (j + 1) (sectionSize (s .layout .width)) q)
+    (refl, sym (ap hasLast d ∙ ap (λ (b : Bool). b || false) (ne-eqb (sectionSize (s .layout .width) - j) 1 (λ z. omega arith))))
+commit-answers l s v st j d p (no q) = rw (le-ltb (j + 1) (sectionSize (s .layout .width)) (omega arith))
+    (refl, sym (ap hasLast d ∙ ap (λ (b : Bool). b || false) (eq-eqb (sectionSize (s .layout .width) - j) 1 (omega arith))))
 
 module _ (tag : Tag) (g : Layout) (v₀ : List ℕ) where
   phase-answers : (v : List ℕ) (l : Ledger) (s : State) (st : List ℕ) → Lives tag g v₀ v l (on s st) → Answers l (phaseStep s v st (s .phase))
-  phase-answers v l s st (filling n m _ D A) = (refl, sym (ne-eqb (l .due) 1 (omega (arith, A .due))))
+  phase-answers v l s st (filling n m _ D A) = (refl, sym (ap hasLast (A .due)))
   phase-answers v l s st (committing n m j _ p A) = commit-answers l (stateAt g n m (Committing j)) v st j (A .due) p (decLt (j + 1) (sectionSize (g .width)))
   phase-answers v l s st (writingBack n m i h _ D A) = home-answers l (A .due) (stateAt g n m (WritingBack i h)) v st (entryOf (g .width) st i) h _ _ (emptySection (g .width))
   phase-answers v l s st (recovering m k _ D A) = rw (at-get g (A .spot)) (home-answers l (A .due) (stateAt g 0 m (Recovering k)) v st _ _ _ _ st)

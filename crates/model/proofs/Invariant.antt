@@ -3,7 +3,7 @@ use Prim.Native.Nat.{ℕ, zero, suc, _+_, _-_, _*_, _%_, _^_, _≤_, _<_}
 use mathlib.Core.Bool.{true}
 use mathlib.Core.Path.{_≡_, sym, ap, _∙_, subst}
 use mathlib.Core.Logic.{_≢_, inl}
-use mathlib.Core.List.{List, []}
+use mathlib.Core.List.{List, [], _∷_}
 use native.Mathlib.Omega.{arith}
 use lib.ListN.{length, getD}
 use Rattle.octets.specs.Parts.{part}
@@ -76,7 +76,7 @@ module _ (tag : Tag) (g : Layout) (v₀ : List ℕ) where
   pub record AtFilling (v : List ℕ) (l : Ledger) (n m : ℕ) (st : List ℕ) : Type 0 where
     pub staged : Staged st n
     pub batch : batchOf (g .width) st n ≡ l .batch
-    pub due : l .due ≡ 0
+    pub due : l .due ≡ []
     pub next : m ≡ greatestId g v + 1
     pub clean : Clean (g .provided) (Home g tag v) (l .contents)
 
@@ -100,7 +100,7 @@ module _ (tag : Tag) (g : Layout) (v₀ : List ℕ) where
     pub some : 0 < n
     pub given : m < 2 ^ 64 - 1
     pub place : j ≤ sectionSize (g .width)
-    pub due : l .due + j ≡ sectionSize (g .width)
+    pub due : l .due ≡ (sectionSize (g .width) - j) ∷ []
     pub u : List ℕ
     pub disk : Disk u (l .contents)
     pub clean : Clean (g .provided) (Home g tag u) (l .contents)
@@ -118,7 +118,7 @@ module _ (tag : Tag) (g : Layout) (v₀ : List ℕ) where
   pub record AtHome (v : List ℕ) (l : Ledger) (n m i h : ℕ) (st : List ℕ) : Type 0 where
     pub staged : Staged st n
     pub empty : l .batch ≡ []
-    pub due : l .due ≡ 0
+    pub due : l .due ≡ []
     pub next : m ≡ greatestId g v + 1
     pub place : i < n
     pub half : h < homeCount g (entryOf (g .width) st i)
@@ -128,7 +128,7 @@ module _ (tag : Tag) (g : Layout) (v₀ : List ℕ) where
   pub record AtRecover (v : List ℕ) (l : Ledger) (m k : ℕ) (st : List ℕ) : Type 0 where
     pub staged : Staged st 0
     pub empty : l .batch ≡ []
-    pub due : l .due ≡ 0
+    pub due : l .due ≡ []
     pub next : m ≡ greatestId g v + 1
     pub i : ℕ
     pub h : ℕ
@@ -136,7 +136,7 @@ module _ (tag : Tag) (g : Layout) (v₀ : List ℕ) where
     pub progress : Progress v (l .contents) (writes (replay g v)) i h
 
   pub data Lives (v : List ℕ) (l : Ledger) : Live → Type 0 where
-    stopped : Disk v (l .contents) → l .batch ≡ [] → l .due ≡ 0 → Lives v l off
+    stopped : Disk v (l .contents) → l .batch ≡ [] → l .due ≡ [] → Lives v l off
     filling : (n m : ℕ) (st : List ℕ) → Disk v (l .contents) → AtFilling v l n m st → Lives v l (on (stateAt g n m Filling) st)
     committing : (n m j : ℕ) (st : List ℕ) → j < sectionSize (g .width) → AtCommit v l n m j st → Lives v l (on (stateAt g n m (Committing j)) st)
     writingBack : (n m i h : ℕ) (st : List ℕ) → Disk v (l .contents) → AtHome v l n m i h st → Lives v l (on (stateAt g n m (WritingBack i h)) st)

@@ -12,6 +12,7 @@ pub mod Invariant
 pub mod Commits
 pub mod Committing
 pub mod Cuts
+pub mod Ledger
 pub mod Steps
 pub mod States
 pub mod Batches

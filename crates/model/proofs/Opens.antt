@@ -140,7 +140,7 @@ module _ (tag : Tag) (g : Layout) (v₀ : List ℕ) (X : Setting tag g v₀)
   empty-writes [] e = refl
   empty-writes (x ∷ xs) e = absurd (omega (arith, at-in g (start-at x xs)))
 
-  opened : l .batch ≡ [] → l .due ≡ 0 → (st : List ℕ) → OpenLeads (openBy g v st passed)
+  opened : l .batch ≡ [] → l .due ≡ [] → (st : List ℕ) → OpenLeads (openBy g v st passed)
   opened b d st = go (ℕ-discrete (storesOf g (replay g v)) 0)
     where
       go : Dec (storesOf g (replay g v) ≡ 0) → OpenLeads (openBy g v st passed)
@@ -174,7 +174,7 @@ module _ (tag : Tag) (g : Layout) (v₀ : List ℕ) (X : Setting tag g v₀)
             fills = λ q. never q;
           })
 
-  pub open-keeps : (st : List ℕ) → l .batch ≡ [] → l .due ≡ 0 → OpenLeads (openOf tag (g .reserved) v st)
+  pub open-keeps : (st : List ℕ) → l .batch ≡ [] → l .due ≡ [] → OpenLeads (openOf tag (g .reserved) v st)
   open-keeps st b d = go (which (stagingOk g st))
     where
       go : Which (stagingOk g st) → OpenLeads (openOf tag (g .reserved) v st)

@@ -21,7 +21,8 @@ use Rattle.octets.proofs.Choice.{passes}
 use Rattle.model.specs.Flush.{inPhase}
 use Rattle.model.specs.State.{passed, volumeLoanOk, placeOk, replayOk, stateOk, volumeOk, stagingOk}
 use Rattle.model.specs.Step.{noEntry, rangeRows, stepRows, StepResult, commitStep, homeStep, writeBackStep, recoverStep, phaseStep, stepBy, stepOf}
-use Rattle.model.specs.Ledger.{stepped, Write, Ledger, entered, countDown, afterStep, note}
+use Rattle.model.specs.Ledger.{stepped, Write, Ledger, entered, note}
+use Rattle.model.proofs.Ledger.{still, ticks, enters}
 use Rattle.model.specs.World.{Live, off, on, World, stepTaken, stepWorld}
 use Rattle.model.proofs.Replays.{mentions, mentions-get, Pass, pass-ends, noWrite}
 use Rattle.model.proofs.Journals.{every-get, writes, length-writes, writeOfEntry, batchOf}
@@ -72,31 +73,6 @@ get-writes [] i z l = absurd (omega arith)
 get-writes (x ∷ xs) zero z l = refl
 get-writes (x ∷ xs) (suc i) z l = get-writes xs i z (omega arith)
 
--- the ledger's step
-pub still : (l : Ledger) → l .due ≡ 0 → afterStep l ≡ l
-still l = go (l .due)
-  where
-    go : (d : ℕ) → d ≡ 0 → countDown (l .contents) (l .batch) d ≡ record { contents = l .contents; batch = l .batch; due = d }
-    go zero e = refl
-    go (suc zero) e = absurd (omega arith)
-    go (suc (suc d)) e = absurd (omega arith)
-
-pub ticks : (l : Ledger) → 2 ≤ l .due → afterStep l ≡ record { contents = l .contents; batch = l .batch; due = l .due - 1 }
-ticks l = go (l .due)
-  where
-    go : (d : ℕ) → 2 ≤ d → countDown (l .contents) (l .batch) d ≡ record { contents = l .contents; batch = l .batch; due = d - 1 }
-    go zero e = absurd (omega arith)
-    go (suc zero) e = absurd (omega arith)
-    go (suc (suc d)) e = ap (λ (x : ℕ). record { contents = l .contents; batch = l .batch; due = x }) {x = suc d} {y = suc (suc d) - 1} (omega arith)
-
-pub enters : (l : Ledger) → l .due ≡ 1 → afterStep l ≡ record { contents = entered (l .contents) (l .batch); batch = []; due = 0 }
-enters l = go (l .due)
-  where
-    go : (d : ℕ) → d ≡ 1 → countDown (l .contents) (l .batch) d ≡ record { contents = entered (l .contents) (l .batch); batch = []; due = 0 }
-    go zero e = absurd (omega arith)
-    go (suc zero) e = refl
-    go (suc (suc d)) e = absurd (omega arith)
-
 module _ (tag : Tag) (g : Layout) (v₀ : List ℕ) (X : Setting tag g v₀) where
   pub record Inv (w : World) (l : Ledger) : Type 0 where
     pub lives : Lives tag g v₀ (w .medium) l (w .live)
@@ -135,19 +111,20 @@ module _ (tag : Tag) (g : Layout) (v₀ : List ℕ) (X : Setting tag g v₀) whe
       → Dec (j + 1 < sectionSize (g .width)) → StepLeads v l (commitStep (stateAt g n m (Committing j)) v st j)
   unfolding commitStep
   commit-stores v l n m j st p A (yes q) =
-      let l′ : Ledger = record { contents = l .contents; batch = l .batch; due = l .due - 1 } in
-      rw (lt-ltb (j + 1) (sectionSize (g .width)) q, ticks l (omega (arith, A .due)))
+      let m′ : ℕ = sectionSize (g .width) - (j + 1) in
+      let l′ : Ledger = record { contents = l .contents; batch = l .batch; due = m′ ∷ [] } in
+      rw (lt-ltb (j + 1) (sectionSize (g .width)) q, ticks l (sectionSize (g .width) - j) m′ (A .due) (omega arith) (omega arith))
       (record {
-        lives = committing n m (j + 1) st q (commit-goes tag g v₀ X v l n m j st A p l′ refl refl (omega (arith, A .due)));
+        lives = committing n m (j + 1) st q (commit-goes tag g v₀ X v l n m j st A p l′ refl refl refl);
         fills = λ q. never q;
       })
   commit-stores v l n m j st p A (no q) =
-      let l₁ : Ledger = record { contents = l .contents; batch = l .batch; due = l .due - 1 } in
-      let l′ : Ledger = record { contents = entered (l .contents) (l .batch); batch = []; due = 0 } in
+      let l₁ : Ledger = record { contents = l .contents; batch = l .batch; due = (sectionSize (g .width) - (j + 1)) ∷ [] } in
+      let l′ : Ledger = record { contents = entered (l .contents) (l .batch); batch = []; due = [] } in
       let w : List ℕ = made v (record { at = sectionAt g ((m - 1) % g .sections) + j; content = sealed g st m j }) in
       let z : j + 1 ≡ sectionSize (g .width) = omega arith in
-      let B : AtCommit tag g v₀ w l₁ n m (j + 1) st = commit-goes tag g v₀ X v l n m j st A p l₁ refl refl (omega (arith, A .due)) in
-      rw (le-ltb (j + 1) (sectionSize (g .width)) (omega arith), enters l (omega (arith, A .due)))
+      let B : AtCommit tag g v₀ w l₁ n m (j + 1) st = commit-goes tag g v₀ X v l n m j st A p l₁ refl refl refl in
+      rw (le-ltb (j + 1) (sectionSize (g .width)) (omega arith), enters l (sectionSize (g .width) - j) (A .due) (omega arith))
       (record {
         lives = writingBack n (m + 1) 0 0 st (seal-disk tag g v₀ X w l₁ n m (j + 1) st B z)
             (seal-ends tag g v₀ X w l₁ n m (j + 1) st B z l′ refl refl refl);

@@ -2,13 +2,17 @@
 --
 -- Noted          : what the ledger is fed: "the cuts and calls in order, each write's sector and bytes, and which calls were refused"
 -- Contents       : what each logical sector holds
--- Ledger         : the contents, the batch, and how many taken steps are still to come until the batch is entered (0 if no flush began that)
+-- Ledger         : the contents, the batch, and for each taken flush of a batch that was not empty, since the last cut, how many taken steps are to come
+--                  until it enters the batch
 -- lastFor ws s d : the bytes of the last write of ws to sector s, else d
 -- note m l x     : the ledger l after x, for sections of m sectors
 -- ledgerOf m xs  : the ledger of the transcript xs
-use Prim.Native.Nat.{ℕ, zero, suc}
-use mathlib.Core.Bool.{Bool, true, false}
+-- FlushesCount   : each taken flush counts by itself
+use Prim.Native.Nat.{ℕ, zero, suc, _-_, _≤_}
+use mathlib.Core.Bool.{Bool, true, false, _||_}
 use mathlib.Core.List.{List, [], _∷_, _++_}
+use mathlib.Core.Logic.{_≢_}
+use mathlib.Core.Path.{_≡_}
 use lib.ListN.{length, replicate}
 use lib.Dec.{eqb}
 use Rattle.octets.specs.Choice.{pick}
@@ -40,36 +44,46 @@ entered c ws s = lastFor ws s (c s)
 pub record Ledger : Type 0 where
   pub contents : Contents
   pub batch : List Write
-  pub due : ℕ
+  pub due : List ℕ
 
 -- "It starts with P contents of 512 zero bytes and an empty batch."
 abbrev pub start : Ledger
-start = record { contents = λ s. replicate sectorSize 0; batch = []; due = 0 }
+start = record { contents = λ s. replicate sectorSize 0; batch = []; due = [] }
 
 -- "A taken write adds its sector and bytes to the batch's end."
 abbrev pub afterWrite : ℕ → List ℕ → Ledger → Ledger
 afterWrite s bytes l = record { contents = l .contents; batch = l .batch ++ (record { sector = s; bytes = bytes } ∷ []); due = l .due }
 
--- "after a taken flush .. if it wasn't empty at the flush"
+-- "after a taken flush .. if it wasn't empty at the flush"; each flush counts by itself
 abbrev pub afterFlush : ℕ → Ledger → Ledger
-afterFlush m l = record { contents = l .contents; batch = l .batch; due = pick (eqb (length (l .batch)) 0) 0 m }
+afterFlush m l = record { contents = l .contents; batch = l .batch; due = pick (eqb (length (l .batch)) 0) (l .due) (m ∷ l .due) }
+
+-- whether a step is the last of one of these counts, and what it leaves of them
+abbrev pub hasLast : List ℕ → Bool
+hasLast [] = false
+hasLast (n ∷ ns) = eqb n 1 || hasLast ns
+
+abbrev pub oneLess : List ℕ → List ℕ
+oneLess [] = []
+oneLess (zero ∷ ns) = oneLess ns
+oneLess (suc zero ∷ ns) = oneLess ns
+oneLess (suc (suc n) ∷ ns) = suc n ∷ oneLess ns
 
 -- "The M-th taken step after a taken flush enters the batch in the contents, in order, and empties it"
-abbrev pub countDown : Contents → List Write → ℕ → Ledger
-countDown c ws zero = record { contents = c; batch = ws; due = 0 }
-countDown c ws (suc zero) = record { contents = entered c ws; batch = []; due = 0 }
-countDown c ws (suc (suc n)) = record { contents = c; batch = ws; due = suc n }
+abbrev pub countDown : Contents → List Write → List ℕ → Ledger
+countDown c ws ns =
+    pick (hasLast ns) (record { contents = entered c ws; batch = []; due = oneLess ns }) (record { contents = c; batch = ws; due = oneLess ns })
 
 abbrev pub afterStep : Ledger → Ledger
 afterStep l = countDown (l .contents) (l .batch) (l .due)
 
 -- whether the next taken step enters the batch
 abbrev pub entersNext : Ledger → Bool
-entersNext l = eqb (l .due) 1
+entersNext l = hasLast (l .due)
 
 -- ".. and no cut came between. A cut empties it."
 abbrev pub afterCut : Ledger → Ledger
-afterCut l = record { contents = l .contents; batch = []; due = 0 }
+afterCut l = record { contents = l .contents; batch = []; due = [] }
 
 -- "All else, refused calls too, changes nothing."
 abbrev pub note : ℕ → Ledger → Noted → Ledger
@@ -90,3 +104,9 @@ noteAll m l (x ∷ xs) = noteAll m (note m l x) xs
 
 abbrev pub ledgerOf : ℕ → List Noted → Ledger
 ledgerOf m xs = noteAll m start xs
+
+-- A second flush does not set the count anew: with M − 1 steps after it and one before it, the first has its M-th. The proof is in proofs/Ledger.
+abbrev pub FlushesCount : Type 0
+FlushesCount =
+    (m : ℕ) (l : Ledger) → 2 ≤ m → length (l .batch) ≢ 0 → l .due ≡ []
+    → noteAll m l (flushed true ∷ stepped true ∷ flushed true ∷ replicate (m - 1) (stepped true)) .contents ≡ entered (l .contents) (l .batch)
