@@ -36,7 +36,7 @@ use Rattle.model.proofs.Plans.{home-two}
 use Rattle.section.specs.declared.Location.{Location}
 use Rattle.section.specs.Locations.{Locates}
 use Rattle.journal.specs.Replay.{idsOf, locationAt}
-use Rattle.journal.proofs.Walks.{located, is-there, counted-after, replay-high, ids-kept, location-kept}
+use Rattle.journal.proofs.Walks.{located, located-low, is-there, replay-high, ids-kept, location-kept}
 use Rattle.layout.proofs.Sizes.{width-high, section-inside}
 use Rattle.volume_step.specs.Results.{Leaves, recovered}
 use Rattle.volume.specs.Results.{advanced, stepAdded}
@@ -207,13 +207,9 @@ module _ {b : Advanced} {v₀ : List ℕ} {k : ℕ} {ids : List ℕ} {i at : ℕ
   pub ok-here : (layoutOk g ≡ true) × (needed g * 512 ≤ length v)
   ok-here = (ok, fit-room (b .state) v (u .fit))
 
-  -- what next_location asks for
-  pub continues : (layoutOk g ≡ true) × (needed g * 512 ≤ length v) × (ids ≡ idsOf g v) × ((n : ℕ) × (x ≡ locationAt g v n))
-  continues = (ok, ok-here .1, u .scan, (k + i, u .next))
-
   -- there is a store to be made
   pub is-next : x .section ≢ g .sections → x .section < g .sections
-  is-next ne = omega (arith, counted-after g v ok (k + i) x (u .next) .0, ne)
+  is-next = located-low g v ok (k + i) x (u .next)
 
   module _ (l : x .section < g .sections) where
     abbrev here : State
@@ -221,6 +217,10 @@ module _ {b : Advanced} {v₀ : List ℕ} {k : ℕ} {ids : List ℕ} {i at : ℕ
 
     abbrev at-hand : Entry
     at-hand = entryOf (g .width) (sectionOf g v (x .section)) (x .entry)
+
+    -- what next_location asks for
+    pub continues : (layoutOk g ≡ true) × (needed g * 512 ≤ length v) × (ids ≡ idsOf g v) × (x .section < g .sections) × ((n : ℕ) × (x ≡ locationAt g v n))
+    continues = (ok, ok-here .1, u .scan, l, (k + i, u .next))
 
     pub there : (k + i < storesOf g (replay g v)) × Locates g (sectionOf g v (x .section)) x (placeAt g v (k + i))
     there = located g v ok (k + i) x (u .next) l

@@ -40,7 +40,9 @@ replayed-store-requires c κs =
     (ok-here u .0, ok-here u .1, l, there u l .1 .entry, c .before .before .before .sector-of .ensures, c .before .before .if2 .left, half u l)
 
 next-location-requires : tie.Need-next-location-requires Inv-loop μ-loop
-next-location-requires c κs = continues (c .before .before .before .before .before .before .before .before .before .before .before .loop .inv .3)
+next-location-requires c κs =
+    let u = c .before .before .before .before .before .before .before .before .before .before .before .loop .inv .3 in
+    continues u (is-next u (c .before .before .before .before .before .before .before .if1 .left))
 
 put-requires : tie.Need-put-requires Inv-loop μ-loop
 put-requires c κs =

@@ -1,7 +1,5 @@
-use Prim.Native.Nat.{_<_}
 use mathlib.Core.Path.{refl}
-use native.Mathlib.Omega.{arith}
-use Rattle.journal.proofs.Walks.{located, located-past, is-there, counted-after}
+use Rattle.journal.proofs.Walks.{located, located-low, located-past, is-there}
 use Rattle.model.proofs.States.{state-layout, fit-room, volume-below, volume-past}
 use Rattle.volume_step.proofs.Steps.{wrong-volume}
 use borrow.Author.Needs.{needs}
@@ -30,7 +28,12 @@ returns c =
 next-location-requires : tie.Need-next-location-requires
 next-location-requires c κs =
     let start = c .before .before .before .before .before .before .before .before .before .before .before in
-    (state-layout (start .args .s) (start .pre .0), fit-room (start .args .s) (start .args .v .now) (start .pre .1), c .before .before .before .before .before .before .scan .ensures, (start .args .k, c .before .before .before .before .locate .ensures))
+    let s = start .args .s in
+    let v = start .args .v .now in
+    let k = start .args .k in
+    let ok = state-layout s (start .pre .0) in
+    let at = c .before .before .before .before .locate in
+    (ok, fit-room s v (start .pre .1), c .before .before .before .before .before .before .scan .ensures, located-low (s .layout) v ok k (at .result) (at .ensures) (c .before .if1 .left), (k, at .ensures))
 
 next-store-requires : tie.Need-next-store-requires
 next-store-requires c κs =
@@ -40,8 +43,7 @@ next-store-requires c κs =
     let k = start .args .k in
     let x = c .before .before .before .before .before .before .before .before .locate .result in
     let ok = state-layout s (start .pre .0) in
-    let high = counted-after (s .layout) v ok k x (c .before .before .before .before .before .before .before .before .locate .ensures) .0 in
-    let low : x .section < s .layout .sections = omega (arith, high, c .before .before .before .before .before .if1 .left) in
+    let low = located-low (s .layout) v ok k x (c .before .before .before .before .before .before .before .before .locate .ensures) (c .before .before .before .before .before .if1 .left) in
     let there = located (s .layout) v ok k x (c .before .before .before .before .before .before .before .before .locate .ensures) low in
     (start .pre .0, volume-below s v (start .pre .1) k (start .pre .2) (there .0), start .pre .2, is-there (s .layout) v ok _ (c .before .before .before .next-location .result) (c .before .before .before .next-location .ensures k (c .before .before .before .before .before .before .before .before .locate .ensures)), there .1, low, start .pre .3)
 
