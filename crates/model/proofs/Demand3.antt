@@ -18,8 +18,8 @@ use Rattle.octets.specs.Sectors.{sectorAt}
 use Rattle.octets.proofs.Parts.{eq-same}
 use Rattle.octets.proofs.Sectors.{sector-part}
 use Rattle.model.specs.Layout.{sectionSize, sectionAt, dataAt}
-use Rattle.model.specs.Section.{idOf, entryOf, greatestIn}
-use Rattle.model.specs.Journal.{dueIds, sectionOf, wholeIds, ordered, replayIn, replay}
+use Rattle.model.specs.Section.{idOf, entryOf, emptySection, greatestIn}
+use Rattle.model.specs.Journal.{greatestId, dueIds, sectionOf, wholeIds, ordered, replayIn, replay}
 use Rattle.model.specs.State.{isFilling, passed}
 use Rattle.model.specs.Tag.{Tag, tagOf, tagAt}
 use Rattle.model.specs.Read.{newest, staged, readRows, readOf}
@@ -27,6 +27,8 @@ use Rattle.model.specs.declared.ReadAnswer.the-variants.{Found}
 use Rattle.model.specs.Ledger.{start, lastFor, Ledger, note, noteAll}
 use Rattle.model.specs.World.{Event, Live, off, on, World, aCut, anOpen, aWrite, aFlush, aStep, aRead, begin, unmoved, play, tell, next, noted, after, transcript}
 use Rattle.model.specs.Format.{formatOf}
+use Rattle.model.specs.Open.{openBy}
+use Rattle.model.specs.Guarantees.{OpensFresh, FreshOpens}
 use Rattle.model.specs.Demand3.{Agrees, Demand3, Demand3Sha256}
 use Rattle.model.proofs.Formats.{Fresh, format-layout, format-fresh}
 use Rattle.model.proofs.Replays.{lastFor-append}
@@ -38,9 +40,11 @@ use Rattle.model.proofs.Invariant.{Setting, low-kept, stateAt, Disk, At
 use Rattle.model.proofs.Cuts.{and-false, cuts}
 use Rattle.model.proofs.Steps.{Inv, never, Fills, FillsLive, sound, sound-volume, sound-staging, step-keeps}
 use Rattle.model.proofs.Batches.{Filled, it, filled, write-keeps, flush-keeps}
-use Rattle.model.proofs.Opens.{open-keeps}
+use Rattle.model.proofs.Opens.{open-runs, query-holds, open-keeps}
 use Rattle.model.specs.declared.FormatAnswer.the-variants.{Formatted}
 use Rattle.model.specs.declared.Layout.{Layout}
+use Rattle.model.specs.declared.OpenAnswer.{OpenAnswer}
+use Rattle.model.specs.declared.OpenAnswer.the-variants.{Opened}
 use Rattle.model.specs.declared.Phase.{Phase}
 use Rattle.model.specs.declared.Phase.the-variants.{Filling, Committing, WritingBack, Recovering}
 use Rattle.model.specs.declared.State.{State}
@@ -98,20 +102,33 @@ module _ (tag : Tag) (g : Layout) (v₀ : List ℕ) (X : Setting tag g v₀) (F 
   unfolding replay
   no-replay = ap (replayIn g v₀) (ordered-none (g .sections) (dueIds g v₀) (λ k h. omega (arith, due-le g v₀ k, zero-ids k h)))
 
-  pub starts : Inv tag g v₀ X (begin v₀) start
-  starts =
+  pub fresh-disk : Disk tag g v₀ v₀ (start .contents)
+  fresh-disk =
       record {
-        lives = stopped (record {
-          sized = refl;
-          kept = λ b o. refl;
-          places = λ k h z. absurd (z (zero-ids k h));
-          window = λ k h z. absurd (z (zero-ids k h));
-          top = omega (arith, top-least g v₀ 0 zero-top);
-          goods = λ k h z. absurd (z (zero-ids k h));
-          durable = rw no-replay
-              (record { unnamed = λ s h e. (F .zero-data s h, F .tags s h); named = λ s h e d. never e });
-        }) refl refl;
-        fills = λ q. never q;
+        sized = refl;
+        kept = λ b o. refl;
+        places = λ k h z. absurd (z (zero-ids k h));
+        window = λ k h z. absurd (z (zero-ids k h));
+        top = omega (arith, top-least g v₀ 0 zero-top);
+        goods = λ k h z. absurd (z (zero-ids k h));
+        durable = rw no-replay (record { unnamed = λ s h e. (F .zero-data s h, F .tags s h); named = λ s h e d. never e });
+      }
+
+  pub starts : Inv tag g v₀ X (begin v₀) start
+  starts = record { lives = stopped fresh-disk refl refl; fills = λ q. never q }
+
+  opened-fresh : openBy g v₀ [] passed .answer ≡ Opened (record { layout = g; phase = Filling; count = 0; id = 1 }) 0
+  opened-fresh =
+      let top : greatestId g v₀ + 1 ≡ 1 = omega (arith, top-least g v₀ 0 zero-top) in
+      rw no-replay (ap (λ (n : ℕ). Opened (record { layout = g; phase = Filling; count = 0; id = n }) 0) top)
+
+  pub opens-fresh : OpensFresh tag g v₀
+  opens-fresh =
+      record {
+        queried = query-holds tag g v₀ X v₀ start fresh-disk;
+        opened = λ st e.
+            open-runs tag g v₀ X v₀ start fresh-disk st (sound-staging tag g v₀ X st e)
+            ∙ ap (λ (a : OpenAnswer). record { answer = a; staging = emptySection (g .width) }) opened-fresh;
       }
 
 -- ---- every event keeps the invariant
@@ -241,3 +258,9 @@ formatted-length g v e = tag-length (g .width) (size-bound (ranged g (format-lay
 
 pub demand3-sha256 : Demand3Sha256
 demand3-sha256 g v e = demand3 (tagOf (g .width)) g (formatted-length g v e) v e
+
+-- a volume that format left
+pub fresh-opens : FreshOpens
+fresh-opens tag g sz v e =
+    let F : Fresh tag g (formatOf tag g v .volume) = format-fresh tag g v sz e in
+    opens-fresh tag g (formatOf tag g v .volume) (setting tag g sz (formatOf tag g v .volume) F) F

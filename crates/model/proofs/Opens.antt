@@ -23,6 +23,8 @@ use Rattle.model.specs.State.{passed, volumeLoanOk, stagingOk}
 use Rattle.model.specs.Open.{misplaced, openRows, entriesVerdict, OpenResult, openBy, openWith, openOf}
 use Rattle.model.specs.declared.Refusal.the-variants.{Malformed}
 use Rattle.model.specs.declared.OpenAnswer.the-variants.{Refused}
+use Rattle.model.specs.Query.{queryWith, queryOf}
+use Rattle.model.specs.declared.QueryAnswer.the-variants.{Holds}
 use Rattle.model.specs.Ledger.{Ledger, opened as openedNote, note}
 use Rattle.model.specs.World.{openTaken, openWorld}
 use Rattle.model.proofs.Replays.{Which, isTrue, isFalse, which, pass-replays}
@@ -123,6 +125,13 @@ module _ (tag : Tag) (g : Layout) (v₀ : List ℕ) (X : Setting tag g v₀)
 
   pub open-refused : (st : List ℕ) → stagingOk g st ≡ false → openOf tag (g .reserved) v st ≡ record { answer = Refused Malformed; staging = st }
   open-refused st e = subst (λ (x : Layout). openWith tag x (g .reserved) v st ≡ record { answer = Refused Malformed; staging = st }) (sym decoded) (wrong st e)
+
+  asked : queryWith g (g .reserved) v ≡ Holds g (sectionSize (g .width) * 512)
+  unfolding queryWith
+  asked = rw (wholes, low₁, low₂, zero-at, valid-at, low₃)
+
+  pub query-holds : queryOf (g .reserved) v ≡ Holds g (sectionSize (g .width) * 512)
+  query-holds = subst (λ (x : Layout). queryWith x (g .reserved) v ≡ Holds g (sectionSize (g .width) * 512)) (sym decoded) asked
 
   -- what an open leads to
   abbrev OpenLeads : OpenResult → Type 0

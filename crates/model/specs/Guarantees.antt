@@ -6,6 +6,7 @@
 -- Outside g b          : byte b is one that no step changes
 -- Guarantees ..        : what holds of them
 -- Guaranteed           : that it does, over any tag function; GuaranteedSha256: for document 01's own tag
+-- FreshOpens           : how a volume that format left is opened
 use Prim.Native.Nat.{ℕ, _+_, _*_, _≤_, _<_}
 use mathlib.Core.Bool.{true}
 use mathlib.Core.Logic.{_⊎_}
@@ -17,12 +18,16 @@ use Rattle.octets.specs.Sectors.{sectorSize, sectorAt}
 use Rattle.model.specs.declared.FormatAnswer.the-variants.{Formatted}
 use Rattle.model.specs.declared.Layout.{Layout}
 use Rattle.model.specs.declared.OpenAnswer.the-variants.{Opened}
+use Rattle.model.specs.declared.Phase.the-variants.{Filling}
+use Rattle.model.specs.declared.QueryAnswer.the-variants.{Holds}
 use Rattle.model.specs.declared.State.{State}
 use Rattle.model.specs.Layout.{sectionSize, sectionAt, base, dataAt, tagByte, needed}
 use Rattle.model.specs.Superblock.{superblockAt, layoutIn}
+use Rattle.model.specs.Section.{emptySection}
 use Rattle.model.specs.Tag.{Tag, tagOf}
 use Rattle.model.specs.Format.{formatOf}
 use Rattle.model.specs.Open.{openOf}
+use Rattle.model.specs.Query.{queryOf}
 use Rattle.model.specs.Step.{stepOf}
 use Rattle.model.specs.Ledger.{Ledger, entersNext, ledgerOf}
 use Rattle.model.specs.World.{Event, anOpen, aStep, off, on, World, volumeIn, begin, openTaken, stepTaken, stepAcknowledges, after, transcript}
@@ -70,3 +75,16 @@ Guaranteed = (tag : Tag) (g : Layout) → ((s : ℕ) (bytes : List ℕ) → leng
 -- for document 01's tag nothing is left to assume
 abbrev pub GuaranteedSha256 : Type 0
 GuaranteedSha256 = (g : Layout) (v : List ℕ) → GuaranteedFor (tagOf (g .width)) g v
+
+-- ---- a volume that format left: it holds the layout that was formatted, and an open finds nothing to replay
+
+pub record OpensFresh (tag : Tag) (g : Layout) (v₀ : List ℕ) : Type 0 where
+  pub queried : queryOf (g .reserved) v₀ ≡ Holds g (sectionSize (g .width) * sectorSize)
+  pub opened : (staging : List ℕ) → length staging ≡ sectionSize (g .width) * sectorSize
+      → openOf tag (g .reserved) v₀ staging
+      ≡ record { answer = Opened (record { layout = g; phase = Filling; count = 0; id = 1 }) 0; staging = emptySection (g .width) }
+
+abbrev pub FreshOpens : Type 0
+FreshOpens =
+    (tag : Tag) (g : Layout) → ((s : ℕ) (bytes : List ℕ) → length (tag s bytes) ≡ g .width) → (v : List ℕ)
+    → formatOf tag g v .answer ≡ Formatted → OpensFresh tag g (formatOf tag g v .volume)

@@ -2,3 +2,4 @@
 pub mod Digits
 pub mod Texts
 pub mod Reporting
+pub mod Fresh

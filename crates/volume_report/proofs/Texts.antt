@@ -14,7 +14,7 @@ use Rattle.octets.proofs.Parts.{patch-join}
 use Rattle.model.specs.Section.{collect}
 use Rattle.model.specs.declared.Layout.{Layout}
 use Rattle.volume_check.specs.Check.{flagsOf, countOf}
-use Rattle.volume_report.specs.Report.{decimal, lineOf, layoutLine, flagged, badLine, badLines, checkedText, checkText, FreshPrints, Puts}
+use Rattle.volume_report.specs.Report.{decimal, lineOf, layoutLine, flagged, badLine, badLines, checkedText, checkText, Puts}
 use Rattle.volume_check.proofs.Checks.{get-flags}
 
 -- no text
@@ -66,7 +66,3 @@ checked-text g stores bad n {flags} {count} size e q =
     let lines : badLines (flagged flags) (g .provided) ≡ badLines bad (g .provided) =
     ap (λ (f : List ℕ). badLines (flagged f) (g .provided)) (e ∙ ap (flagsOf bad) size) ∙ flags-lines bad (g .provided) in
     λ i. layoutLine g ++ lineOf "replay " stores ++ lines i ++ lineOf "bad " ((q ∙ ap (countOf bad) size) i)
-
-pub fresh-prints : FreshPrints
-unfolding decimal
-fresh-prints = refl

@@ -9,11 +9,11 @@
 -- badLines bad n  : "`bad-sector s` for each bad one, ascending", of the sectors below n
 -- checkText ..    : the lines of a check: the layout, how many stores open reported, the bad sectors, how many they are
 -- reportOf v      : the report of the image v: its text, and the image afterwards
--- FreshPrints     : document 01's example
+-- FreshReports    : the report of a volume that format left; FreshPrints: document 01's example
 -- Puts .., Reports .. : that a call put a text, or a report, in a loan
 use Prim.Native.Char.{code}
 use Prim.Native.String.{String, [] as noText, _∷_ as _then_}
-use Prim.Native.Nat.{ℕ, zero, suc, _+_, _*_, _/_}
+use Prim.Native.Nat.{ℕ, zero, suc, _+_, _*_, _/_, _≤_}
 use mathlib.Core.Bool.{Bool, false}
 use mathlib.Core.List.{List, [], _∷_, _++_}
 use mathlib.Core.Path.{_≡_}
@@ -23,6 +23,7 @@ use Rattle.io.specs.Digits.{digits}
 use Rattle.octets.specs.Choice.{pick}
 use Rattle.octets.specs.Parts.{patch}
 use Rattle.octets.specs.Sectors.{sectorSize}
+use Rattle.model.specs.declared.FormatAnswer.the-variants.{Formatted}
 use Rattle.model.specs.declared.Layout.{Layout}
 use Rattle.model.specs.declared.QueryAnswer.{QueryAnswer}
 use Rattle.model.specs.declared.QueryAnswer.the-variants as querying
@@ -31,6 +32,8 @@ use Rattle.model.specs.declared.Refusal.the-variants.{Malformed}
 use Rattle.model.specs.Layout.{runLength}
 use Rattle.model.specs.Refusal.{numberOf}
 use Rattle.model.specs.Section.{collect}
+use Rattle.model.specs.Tag.{tagOf}
+use Rattle.model.specs.Format.{formatOf}
 use Rattle.model.specs.Query.{queryOf}
 use Rattle.volume_check.specs.Check.{RecoverResult, recoverOf, isBad, countOf}
 use Rattle.volume_check.specs.declared.RecoverAnswer.{RecoverAnswer}
@@ -104,7 +107,7 @@ reportBy g (Refused r) v st = refusedReport v r
 abbrev pub reportFrom : Layout → RecoverResult → Report
 reportFrom g o = reportBy g (o .answer) (o .volume) (o .staging)
 
--- "The staging length follows from the superblock"
+-- the length of staging follows from the superblock
 abbrev pub reportHeld : List ℕ → QueryAnswer → Report
 reportHeld v (querying.Holds g n) = reportFrom g (recoverOf 0 v (replicate n 0))
 reportHeld v (querying.Refused r) = refusedReport v r
@@ -113,11 +116,21 @@ reportHeld v (querying.Refused r) = refusedReport v r
 unfoldable pub reportOf : List ℕ → Report
 reportOf v = pick (ltb (mostSectors * sectorSize) (length v)) (refusedReport v Malformed) (reportHeld v (queryOf 0 v))
 
--- "A fresh image with T 32, N 16, S 1, P 16 prints exactly": no store to come, and no bad sector
+-- of a volume that format left, as an image: no store to come, and no bad sector. The proof is in proofs/Fresh.
+abbrev pub FreshReports : Type 0
+FreshReports =
+    (g : Layout) (v : List ℕ) → formatOf (tagOf (g .width)) g v .answer ≡ Formatted → g .reserved ≡ 0
+    → length (formatOf (tagOf (g .width)) g v .volume) ≤ mostSectors * sectorSize
+    → reportOf (formatOf (tagOf (g .width)) g v .volume) .text ≡ checkText g 0 (λ s. false)
+
+-- "A fresh image with T 32, N 16, S 1, P 16 prints exactly"
+abbrev pub example : Layout
+example = record { reserved = 0; shift = 4; width = 32; sections = 1; provided = 16 }
+
 abbrev pub FreshPrints : Type 0
 FreshPrints =
-    checkText (record { reserved = 0; shift = 4; width = 32; sections = 1; provided = 16 }) 0 (λ s. false)
-    ≡ bytesOf "tag 32 run 16 sections 1 provided 16\nreplay 0\nbad 0\n"
+    (v : List ℕ) → formatOf (tagOf 32) example v .answer ≡ Formatted → length (formatOf (tagOf 32) example v .volume) ≤ mostSectors * sectorSize
+    → reportOf (formatOf (tagOf 32) example v .volume) .text ≡ bytesOf "tag 32 run 16 sections 1 provided 16\nreplay 0\nbad 0\n"
 
 -- ---- what a call did with the loan that takes the text
 

@@ -84,12 +84,14 @@ module _ (s : State) (v st out : List ℕ) (size : length out ≡ 512) (o : Step
   pub inside-volume : Inside v (o .answer)
   inside-volume = subst (Inside v) (sym answered) (named-inside (s .layout) v (stepOf s v st .answer) (stepOf s v st .effect) (store .sector) (store .within))
 
+  pub content-is : out′ ≡ contentOf out (stepOf s v st .effect)
+  content-is = filled .content ∙ ap (λ (x : StepResult). contentOf out (x .effect)) told
+
   pub leaves : (v′ : List ℕ) → v′ ≡ storeNamed v (o .answer) out′ → Leaves v (stepOf s v st) o v′ st′
   leaves v′ e =
       record {
         returned = returned;
-        volume =
-            e ∙ (λ i. storeNamed v (answered i) ((filled .content ∙ ap (λ (x : StepResult). contentOf out (x .effect)) told) i)) ∙ store .made out;
+        volume = e ∙ (λ i. storeNamed v (answered i) (content-is i)) ∙ store .made out;
         staging = filled .staging ∙ ap (λ (x : StepResult). x .staging) told;
       }
 

@@ -4,6 +4,8 @@ use crate::store;
 use layout::SECTOR_SIZE;
 use model::State;
 use model::Stepped;
+ghost use mathlib.Core.Path.{_≡_};
+ghost use Rattle.model.specs.Store.{contentOf};
 ghost use Rattle.model.specs.Step.{stepOf};
 ghost use Rattle.volume_step.specs.Results.{Leaves};
 
@@ -15,14 +17,14 @@ pub fn step(s: State, v: &mut [u8], st: &mut [u8]) -> Stepped
     step_through(s, v, st, &mut content)
 }
 
-// The same with a sector lent for the content, so that a caller of many steps makes it once. What it holds afterwards is left open.
+// The same with a sector lent for the content, as next_store has it, so that a caller of many steps makes it once.
 pub fn step_through(
     s: State,
     v: &mut [u8],
     st: &mut [u8],
     content: &mut [u8; SECTOR_SIZE],
 ) -> Stepped
-    ensures { λ r. ⌜ Leaves (now (v .entry)) (stepOf s (now (v .entry)) (now (st .entry))) r (now (v .exit)) (now (st .exit)) ⌝ }
+    ensures { λ r. ⌜ Leaves (now (v .entry)) (stepOf s (now (v .entry)) (now (st .entry))) r (now (v .exit)) (now (st .exit)) × (now (content .exit) ≡ contentOf (now (content .entry)) (stepOf s (now (v .entry)) (now (st .entry)) .effect)) ⌝ }
 {
     let stepped = next_store::next_store(s, v, st, content);
     let answer = stepped.answer;

@@ -29,7 +29,7 @@ returns c =
     let turn = c .before .before .before .before .before .before .before .before .before .before .before .before .loop in
     let step = c .before .before .before .before .before .before .before .step-through in
     let more = c .before .before .one-more in
-    made-all (turn .last) (more .result) (step .result) (more .ensures) (turn .v) (turn .st) _ _ (step .ensures)
+    made-all (turn .last) (more .result) (step .result) (more .ensures) (turn .v) (turn .st) _ _ (step .ensures .0)
     (advanced (args .before) (args .v .now) (args .st .now)) (turn .i) (turn .inv .4) (args .n) (c .before .before .before .before .before .before .before .before .before .before .before .loop-test .taken) (omega (arith, c .before .stores-in .ensures .0, c .if1 .taken))
 
 loop-again : tie.Need-loop-again Inv-loop μ-loop
@@ -44,7 +44,7 @@ loop-again c =
       search needs,
       search needs,
       omega (arith, stores, count .ensures .0, count .ensures .1, turn .inv .3),
-      made-more (turn .last) (more .result) (step .result) (more .ensures) (turn .v) (turn .st) _ _ (step .ensures)
+      made-more (turn .last) (more .result) (step .result) (more .ensures) (turn .v) (turn .st) _ _ (step .ensures .0)
           (advanced (args .before) (args .v .now) (args .st .now)) (turn .i) (turn .inv .4),
     )
 

@@ -1,4 +1,4 @@
-use Rattle.volume_step.proofs.Making.{inside-volume, leaves}
+use Rattle.volume_step.proofs.Making.{inside-volume, content-is, leaves}
 use borrow.Author.Needs.{needs}
 use Rattle.volume_step.proofs.step.step_through.Statement.{statement}
 use Rattle.volume_step.proofs.step.step_through.Tie as tie
@@ -12,8 +12,10 @@ make-requires c κs =
 returns : tie.Need-returns
 returns c =
     let args = c .before .before .before .before .before .before .before .before .before .before .before .before .before .args in
-    let next-store = c .before .before .before .before .before .before .before .next-store in
-    leaves (args .s) (args .v .now) (args .st .now) _ (search needs) (next-store .result) _ _ (next-store .ensures) _ (c .before .before .make .ensures)
+    let next-store = c .before .before .before .before .before .before .before .next-store in (
+      leaves (args .s) (args .v .now) (args .st .now) _ (search needs) (next-store .result) _ _ (next-store .ensures) _ (c .before .before .make .ensures),
+      content-is (args .s) (args .v .now) (args .st .now) _ (search needs) (next-store .result) _ _ (next-store .ensures),
+    )
 
 pub step-through-spec : {M : Type 1} → statement M
 step-through-spec = tie.close (tie.spec (λ c κs. search needs) make-requires (λ c. search needs) (λ c. search needs) returns)
