@@ -1,0 +1,30 @@
+-- What a call answers. Document 01, "Refusal numbers": "Where an answer is an enum, a definition states this paper's number and values for each of its
+-- cases. The promises use that definition." Each answer enum of the code is mapped onto `Answer` by such a definition.
+--
+-- Refusal Value  : a number of document 01's table, and what is also returned, as values of that type
+-- Answer Value A : what a call answers: it is taken, and gives something of type A, or it is refused
+-- refuse n xs    : refused with the number n, and xs is also returned
+-- isTaken a      : whether the call was taken
+-- numberIn a     : the number of the answer: 0 where the call was taken
+use Prim.Native.Nat.{ℕ}
+use mathlib.Core.Bool.{Bool, true, false}
+use mathlib.Core.List.{List}
+
+pub record Refusal (Value : Type 0) : Type 0 where
+  pub number : ℕ
+  pub values : List Value
+
+pub data Answer (Value A : Type 0) : Type 0 where
+  taken : A → Answer Value A
+  refused : Refusal Value → Answer Value A
+
+abbrev pub refuse : {Value A : Type 0} → ℕ → List Value → Answer Value A
+refuse n xs = refused (record { number = n; values = xs })
+
+abbrev pub isTaken : {Value A : Type 0} → Answer Value A → Bool
+isTaken (taken x) = true
+isTaken (refused r) = false
+
+abbrev pub numberIn : {Value A : Type 0} → Answer Value A → ℕ
+numberIn (taken x) = 0
+numberIn (refused r) = r .number
