@@ -5,11 +5,12 @@ use mathlib.Core.List.{List}
 use mathlib.Core.Path.{_≡_, refl, ap, _∙_}
 use native.Mathlib.Omega.{arith}
 use lib.Dec.{ltb}
+use Rattle.octets.specs.Answer.{taken, refused}
 use Rattle.octets.specs.Choice.{pick, firstMet}
 use Rattle.model.specs.Layout.{sectionSize}
 use Rattle.model.specs.Section.{Entry}
 use Rattle.model.specs.Store.{Place, storeOf, afterEffect}
-use Rattle.model.specs.State.{Verdict, passed, refused}
+use Rattle.model.specs.State.{Verdict, passed}
 use Rattle.model.specs.Step.{StepResult, stepRows, commitStep, homeStep, recoverPlace, placeAt, phaseStep, stepBy, stepOf}
 use Rattle.model.specs.World.{stepAcknowledges}
 use Rattle.model.specs.Advance.{AdvanceResult, storesIn, stepMade, oneMore, advanceFrom}
@@ -50,7 +51,7 @@ module _ (s : State) (v st : List ℕ) where
   phase-quiet (Recovering k) = place-quiet k (placeAt (s .layout) v k)
 
   by-quiet : (r : Verdict) → Quiet (stepBy s v st r)
-  by-quiet passed = phase-quiet (s .phase)
+  by-quiet (taken x) = phase-quiet (s .phase)
   by-quiet (refused r) = λ q. record { state = refl; volume = refl; staging = refl }
 
   pub step-quiet : Quiet (stepOf s v st)

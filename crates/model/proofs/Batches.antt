@@ -10,17 +10,17 @@ use native.Mathlib.Decide.{ℕ-discrete}
 use lib.ListN.{length}
 use lib.Dec.{eqb}
 use borrow.Author.Tests.{eqb-true, eq-eqb, ne-eqb, lt-ltb, leb-false}
+use Rattle.octets.specs.Answer.{Refusal, taken, refused, isTaken}
 use Rattle.octets.specs.Choice.{pick, firstMet, Unmet}
 use Rattle.octets.proofs.Choice.{unmet}
 use Rattle.model.specs.Layout.{entryCount, sectionSize}
 use Rattle.model.specs.Section.{Entry, entryOf, putEntry}
-use Rattle.model.specs.Tag.{Tag}
-use Rattle.model.specs.State.{Verdict, passed, refused, lastId, sectorOk, stateOk, stagingOk, isFilling}
-use Rattle.model.specs.declared.Refusal.{Refusal}
+use Rattle.model.specs.Tag.{Tag, Tags}
+use Rattle.model.specs.State.{Verdict, passed, lastId, sectorOk, stateOk, stagingOk, isFilling}
 use Rattle.model.specs.Write.{newEntry, writeRows, WriteResult, writeOf}
-use Rattle.model.specs.Flush.{flushRows, flushOf}
+use Rattle.model.specs.Flush.{FlushResult, flushRows, flushOf}
 use Rattle.model.specs.Ledger.{Ledger, wrote, flushed, afterWrite, note}
-use Rattle.model.specs.World.{writeTaken, flushTaken, writeWorld, flushWorld, Live, on, World}
+use Rattle.model.specs.World.{writeWorld, flushWorld, Live, on, World}
 use Rattle.model.proofs.Sections.{length-putEntry, entryOf-put-same, entryOf-put-other}
 use Rattle.model.proofs.Journals.{batchOf}
 use Rattle.model.proofs.Addresses.{and-both}
@@ -29,7 +29,6 @@ use Rattle.model.proofs.Steps.{Inv, never, length-batch}
 use Rattle.model.specs.declared.Layout.{Layout}
 use Rattle.model.specs.declared.Phase.the-variants.{Filling}
 use Rattle.model.specs.declared.State.{State}
-use Rattle.model.specs.declared.Flushed.{Flushed}
 
 pub not-not : (t : Bool) → not t ≡ false → t ≡ true
 not-not true e = refl
@@ -37,22 +36,25 @@ not-not false e = sym e
 
 -- ---- verdicts
 
-pub refused-not : (r : Refusal) → refused r ≢ passed
+pub refused-not : (r : Refusal ℕ) → refused r ≢ passed
 refused-not r e = absurd (let z : _≡_ {A = ℕ} 0 1 = cc in omega arith)
 
 pub data Seen (x : Verdict) : Type 0 where
   isPassed : x ≡ passed → Seen x
-  isRefused : (r : Refusal) → x ≡ refused r → Seen x
+  isRefused : (r : Refusal ℕ) → x ≡ refused r → Seen x
 
 pub seen : (x : Verdict) → Seen x
-seen passed = isPassed refl
+seen (taken x) = isPassed refl
 seen (refused r) = isRefused r refl
 
 pub batch-cong : (t : ℕ) (st st′ : List ℕ) (n : ℕ) → ((i : ℕ) → i < n → entryOf t st i ≡ entryOf t st′ i) → batchOf t st n ≡ batchOf t st′ n
 batch-cong t st st′ zero h = refl
 batch-cong t st st′ (suc n) h = rw (batch-cong t st st′ n (λ i l. h i (omega arith)), h n (omega arith))
 
-module _ (tag : Tag) (g : Layout) (v₀ : List ℕ) (X : Setting tag g v₀) where
+module _ (tags : Tags) (g : Layout) (v₀ : List ℕ) (X : Setting (tags (g .width)) g v₀) where
+  abbrev tag : Tag
+  tag = tags (g .width)
+
   abbrev I : World → Ledger → Type 0
   I = Inv tag g v₀ X
 
@@ -72,14 +74,14 @@ module _ (tag : Tag) (g : Layout) (v₀ : List ℕ) (X : Setting tag g v₀) whe
   -- ---- write
 
   abbrev WriteLeads : List ℕ → Ledger → ℕ → List ℕ → WriteResult → Type 0
-  WriteLeads v l n b o = I (writeWorld v o) (note (sectionSize (g .width)) l (wrote (writeTaken (o .answer)) n b))
+  WriteLeads v l n b o = I (writeWorld v o) (note (sectionSize (g .width)) l (wrote (isTaken (o .answer)) n b))
 
   abbrev writeVerdict : State → List ℕ → ℕ → List ℕ → Verdict
   writeVerdict s st n b = firstMet (writeRows s st n b) passed
 
   -- a refused write changes nothing
   write-refused : (v : List ℕ) (l : Ledger) (s : State) (st : List ℕ) (n : ℕ) (b : List ℕ) → L v l (on s st)
-      → (r : Refusal) → writeVerdict s st n b ≡ refused r → WriteLeads v l n b (writeOf tag s st n b)
+      → (r : Refusal ℕ) → writeVerdict s st n b ≡ refused r → WriteLeads v l n b (writeOf tags s st n b)
   unfolding writeOf
   write-refused v l s st n b A r e = rw e (record { lives = A; fills = λ q. never q })
 
@@ -105,7 +107,7 @@ module _ (tag : Tag) (g : Layout) (v₀ : List ℕ) (X : Setting tag g v₀) whe
 
   module _ (v : List ℕ) (l : Ledger) (cnt m : ℕ) (st : List ℕ) (n : ℕ) (b : List ℕ) (A : AtFilling tag g v₀ v l cnt m st) (T : Taken cnt n b) where
     abbrev e : Entry
-    e = newEntry tag (stateAt g cnt m Filling) st n b
+    e = newEntry tags (stateAt g cnt m Filling) st n b
 
     abbrev st′ : List ℕ
     st′ = putEntry (g .width) st cnt e
@@ -143,37 +145,37 @@ module _ (tag : Tag) (g : Layout) (v₀ : List ℕ) (X : Setting tag g v₀) whe
 
   write-taken : (v : List ℕ) (l : Ledger) (cnt m : ℕ) (st : List ℕ) (n : ℕ) (b : List ℕ) → Disk tag g v₀ v (l .contents)
       → AtFilling tag g v₀ v l cnt m st → writeVerdict (stateAt g cnt m Filling) st n b ≡ passed
-      → WriteLeads v l n b (writeOf tag (stateAt g cnt m Filling) st n b)
+      → WriteLeads v l n b (writeOf tags (stateAt g cnt m Filling) st n b)
   unfolding writeOf
   write-taken v l cnt m st n b D A z =
       rw z
       (record {
-        lives = filling (cnt + 1) m (putEntry (g .width) st cnt (newEntry tag (stateAt g cnt m Filling) st n b)) D
+        lives = filling (cnt + 1) m (putEntry (g .width) st cnt (newEntry tags (stateAt g cnt m Filling) st n b)) D
             (put-filling v l cnt m st n b A (write-rules cnt m st n b z));
         fills = λ q. never q;
       })
 
   pub write-keeps : (v : List ℕ) (l : Ledger) (s : State) (st : List ℕ) (n : ℕ) (b : List ℕ) → L v l (on s st)
-      → WriteLeads v l n b (writeOf tag s st n b)
+      → WriteLeads v l n b (writeOf tags s st n b)
   write-keeps v l s st n b A = go (seen (writeVerdict s st n b))
     where
-      taken : (s : State) (st : List ℕ) → Filled v l s st → writeVerdict s st n b ≡ passed → WriteLeads v l n b (writeOf tag s st n b)
-      taken s st (it cnt m _ D A) t = write-taken v l cnt m st n b D A t
+      passes : (s : State) (st : List ℕ) → Filled v l s st → writeVerdict s st n b ≡ passed → WriteLeads v l n b (writeOf tags s st n b)
+      passes s st (it cnt m _ D A) t = write-taken v l cnt m st n b D A t
 
-      go : Seen (writeVerdict s st n b) → WriteLeads v l n b (writeOf tag s st n b)
-      go (isPassed t) = taken s st (filled v l s st A (not-not (isFilling (s .phase)) (write-unmet s st n b t .1 .0))) t
+      go : Seen (writeVerdict s st n b) → WriteLeads v l n b (writeOf tags s st n b)
+      go (isPassed t) = passes s st (filled v l s st A (not-not (isFilling (s .phase)) (write-unmet s st n b t .1 .0))) t
       go (isRefused r e) = write-refused v l s st n b A r e
 
   -- ---- flush
 
-  abbrev FlushLeads : List ℕ → Ledger → List ℕ → Flushed → Type 0
-  FlushLeads v l st o = I (flushWorld v st o) (note (sectionSize (g .width)) l (flushed (flushTaken (o .answer))))
+  abbrev FlushLeads : List ℕ → Ledger → List ℕ → FlushResult → Type 0
+  FlushLeads v l st o = I (flushWorld v st o) (note (sectionSize (g .width)) l (flushed (isTaken (o .answer))))
 
   abbrev flushVerdict : State → Verdict
   flushVerdict s = firstMet (flushRows s) passed
 
   flush-refused : (v : List ℕ) (l : Ledger) (s : State) (st : List ℕ) → L v l (on s st)
-      → (r : Refusal) → flushVerdict s ≡ refused r → FlushLeads v l st (flushOf s)
+      → (r : Refusal ℕ) → flushVerdict s ≡ refused r → FlushLeads v l st (flushOf s)
   unfolding flushOf
   flush-refused v l s st A r e = rw e (record { lives = A; fills = λ q. never q })
 
@@ -230,10 +232,10 @@ module _ (tag : Tag) (g : Layout) (v₀ : List ℕ) (X : Setting tag g v₀) whe
   pub flush-keeps : (v : List ℕ) (l : Ledger) (s : State) (st : List ℕ) → L v l (on s st) → FlushLeads v l st (flushOf s)
   flush-keeps v l s st A = go (seen (flushVerdict s))
     where
-      taken : (s : State) (st : List ℕ) → Filled v l s st → flushVerdict s ≡ passed → Dec (s .count ≡ 0) → FlushLeads v l st (flushOf s)
-      taken s st (it cnt m _ D A) t (yes q) = flush-none v l cnt m st D A t q
-      taken s st (it cnt m _ D A) t (no q) = flush-begins v l cnt m st D A t q
+      passes : (s : State) (st : List ℕ) → Filled v l s st → flushVerdict s ≡ passed → Dec (s .count ≡ 0) → FlushLeads v l st (flushOf s)
+      passes s st (it cnt m _ D A) t (yes q) = flush-none v l cnt m st D A t q
+      passes s st (it cnt m _ D A) t (no q) = flush-begins v l cnt m st D A t q
 
       go : Seen (flushVerdict s) → FlushLeads v l st (flushOf s)
-      go (isPassed t) = taken s st (filled v l s st A (not-not (isFilling (s .phase)) (flush-unmet s t .1 .0))) t (ℕ-discrete (s .count) 0)
+      go (isPassed t) = passes s st (filled v l s st A (not-not (isFilling (s .phase)) (flush-unmet s t .1 .0))) t (ℕ-discrete (s .count) 0)
       go (isRefused r e) = flush-refused v l s st A r e

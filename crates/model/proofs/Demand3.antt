@@ -8,6 +8,7 @@ use lib.Seq.{length-take-le}
 use lib.ListN.{length, replicate}
 use lib.Dec.{leb, eqb}
 use borrow.Author.Tests.{eqb-true, eq-eqb, lt-leb}
+use Rattle.octets.specs.Answer.{Answer, taken}
 use Rattle.octets.specs.Numbers.{le}
 use Rattle.digest.specs.Sha256.{sha256}
 use Rattle.digest.specs.Sha256.Promise.{length-sha256}
@@ -21,9 +22,8 @@ use Rattle.model.specs.Layout.{sectionSize, sectionAt, dataAt}
 use Rattle.model.specs.Section.{idOf, entryOf, emptySection, greatestIn}
 use Rattle.model.specs.Journal.{greatestId, dueIds, sectionOf, wholeIds, ordered, replayIn, replay}
 use Rattle.model.specs.State.{isFilling, passed}
-use Rattle.model.specs.Tag.{Tag, tagOf, tagAt}
+use Rattle.model.specs.Tag.{Tag, Tags, tagOf, tagAt}
 use Rattle.model.specs.Read.{newest, staged, readRows, readOf}
-use Rattle.model.specs.declared.ReadAnswer.the-variants.{Found}
 use Rattle.model.specs.Ledger.{start, lastFor, Ledger, note, noteAll}
 use Rattle.model.specs.World.{Event, Live, off, on, World, aCut, anOpen, aWrite, aFlush, aStep, aRead, begin, unmoved, play, tell, next, noted, after, transcript}
 use Rattle.model.specs.Format.{formatOf}
@@ -41,10 +41,7 @@ use Rattle.model.proofs.Cuts.{and-false, cuts}
 use Rattle.model.proofs.Steps.{Inv, never, Fills, FillsLive, sound, sound-volume, sound-staging, step-keeps}
 use Rattle.model.proofs.Batches.{Filled, it, filled, write-keeps, flush-keeps}
 use Rattle.model.proofs.Opens.{open-runs, query-holds, open-keeps}
-use Rattle.model.specs.declared.FormatAnswer.the-variants.{Formatted}
 use Rattle.model.specs.declared.Layout.{Layout}
-use Rattle.model.specs.declared.OpenAnswer.{OpenAnswer}
-use Rattle.model.specs.declared.OpenAnswer.the-variants.{Opened}
 use Rattle.model.specs.declared.Phase.{Phase}
 use Rattle.model.specs.declared.Phase.the-variants.{Filling, Committing, WritingBack, Recovering}
 use Rattle.model.specs.declared.State.{State}
@@ -82,7 +79,7 @@ module _ (tag : Tag) (g : Layout) (sz : (s : ℕ) (b : List ℕ) → length (tag
 
 -- ---- the start: nothing is to be replayed, and every sector is home with zeros
 
-module _ (tag : Tag) (g : Layout) (v₀ : List ℕ) (X : Setting tag g v₀) (F : Fresh tag g v₀) where
+module _ (tags : Tags) (g : Layout) (v₀ : List ℕ) (X : Setting (tags (g .width)) g v₀) (F : Fresh (tags (g .width)) g v₀) where
   zero-id : idOf (replicate 512 0) ≡ 0
   zero-id = refl
 
@@ -102,7 +99,7 @@ module _ (tag : Tag) (g : Layout) (v₀ : List ℕ) (X : Setting tag g v₀) (F 
   unfolding replay
   no-replay = ap (replayIn g v₀) (ordered-none (g .sections) (dueIds g v₀) (λ k h. omega (arith, due-le g v₀ k, zero-ids k h)))
 
-  pub fresh-disk : Disk tag g v₀ v₀ (start .contents)
+  pub fresh-disk : Disk (tags (g .width)) g v₀ v₀ (start .contents)
   fresh-disk =
       record {
         sized = refl;
@@ -114,26 +111,29 @@ module _ (tag : Tag) (g : Layout) (v₀ : List ℕ) (X : Setting tag g v₀) (F 
         durable = rw no-replay (record { unnamed = λ s h e. (F .zero-data s h, F .tags s h); named = λ s h e d. never e });
       }
 
-  pub starts : Inv tag g v₀ X (begin v₀) start
+  pub starts : Inv (tags (g .width)) g v₀ X (begin v₀) start
   starts = record { lives = stopped fresh-disk refl refl; fills = λ q. never q }
 
-  opened-fresh : openBy g v₀ [] passed .answer ≡ Opened (record { layout = g; phase = Filling; count = 0; id = 1 }) 0
+  opened-fresh : openBy g v₀ [] passed .answer ≡ taken (record { layout = g; phase = Filling; count = 0; id = 1 }, 0)
   opened-fresh =
       let top : greatestId g v₀ + 1 ≡ 1 = omega (arith, top-least g v₀ 0 zero-top) in
-      rw no-replay (ap (λ (n : ℕ). Opened (record { layout = g; phase = Filling; count = 0; id = n }) 0) top)
+      rw no-replay (ap (λ (n : ℕ). taken (record { layout = g; phase = Filling; count = 0; id = n }, 0)) top)
 
-  pub opens-fresh : OpensFresh tag g v₀
+  pub opens-fresh : OpensFresh tags g v₀
   opens-fresh =
       record {
-        queried = query-holds tag g v₀ X v₀ start fresh-disk;
+        queried = query-holds tags g v₀ X v₀ start fresh-disk;
         opened = λ st e.
-            open-runs tag g v₀ X v₀ start fresh-disk st (sound-staging tag g v₀ X st e)
-            ∙ ap (λ (a : OpenAnswer). record { answer = a; staging = emptySection (g .width) }) opened-fresh;
+            open-runs tags g v₀ X v₀ start fresh-disk st (sound-staging (tags (g .width)) g v₀ X st e)
+            ∙ ap (λ (a : Answer ℕ (State × ℕ)). record { answer = a; staging = emptySection (g .width) }) opened-fresh;
       }
 
 -- ---- every event keeps the invariant
 
-module _ (tag : Tag) (g : Layout) (v₀ : List ℕ) (X : Setting tag g v₀) where
+module _ (tags : Tags) (g : Layout) (v₀ : List ℕ) (X : Setting (tags (g .width)) g v₀) where
+  abbrev tag : Tag
+  tag = tags (g .width)
+
   abbrev pub I : World → Ledger → Type 0
   I = Inv tag g v₀ X
 
@@ -143,13 +143,13 @@ module _ (tag : Tag) (g : Layout) (v₀ : List ℕ) (X : Setting tag g v₀) whe
   M = sectionSize (g .width)
 
   abbrev pub EventLeads : List ℕ → Ledger → Live → Event → Type 0
-  EventLeads v l x e = I (play tag (g .reserved) v x e) (note M l (tell tag (g .reserved) v x e))
+  EventLeads v l x e = I (play tags (g .reserved) v x e) (note M l (tell tags (g .reserved) v x e))
 
   kept-as : (v : List ℕ) (l : Ledger) (x : Live) → Lives tag g v₀ v l x → I (unmoved v x) l
   kept-as v l x A = record { lives = A; fills = λ q. never q }
 
   opens : (v : List ℕ) (l : Ledger) (st : List ℕ) (x : Live) → Lives tag g v₀ v l x → EventLeads v l x (anOpen st)
-  opens v l st off (stopped D b d) = open-keeps tag g v₀ X v l D st b d
+  opens v l st off (stopped D b d) = open-keeps tags g v₀ X v l D st b d
   opens v l st (on s y) A = kept-as v l (on s y) A
 
   reading : (v : List ℕ) (l : Ledger) (n : ℕ) (loan : List ℕ) (x : Live) → Lives tag g v₀ v l x → EventLeads v l x (aRead n loan)
@@ -160,27 +160,27 @@ module _ (tag : Tag) (g : Layout) (v₀ : List ℕ) (X : Setting tag g v₀) whe
   plays v l aCut x A = record { lives = stopped (cuts tag g v₀ X v l x A) refl refl; fills = λ q. never q }
   plays v l (anOpen st) x A = opens v l st x A
   plays v l (aWrite n b) off A = kept-as v l off A
-  plays v l (aWrite n b) (on s st) A = write-keeps tag g v₀ X v l s st n b A
+  plays v l (aWrite n b) (on s st) A = write-keeps tags g v₀ X v l s st n b A
   plays v l aFlush off A = kept-as v l off A
-  plays v l aFlush (on s st) A = flush-keeps tag g v₀ X v l s st A
+  plays v l aFlush (on s st) A = flush-keeps tags g v₀ X v l s st A
   plays v l aStep off A = kept-as v l off A
   plays v l aStep (on s st) A = step-keeps tag g v₀ X v l s st A
   plays v l (aRead n b) x A = reading v l n b x A
 
   -- ---- a list of events: the world and the ledger, side by side
 
-  pub lasts : (w : World) (l : Ledger) (es : List Event) → I w l → I (after tag (g .reserved) w es) (noteAll M l (transcript tag (g .reserved) w es))
+  pub lasts : (w : World) (l : Ledger) (es : List Event) → I w l → I (after tags (g .reserved) w es) (noteAll M l (transcript tags (g .reserved) w es))
   unfolding after transcript
   lasts w l [] J = J
   lasts w l (ev ∷ es) J =
-      lasts (next tag (g .reserved) w ev) (note M l (noted tag (g .reserved) w ev)) es (plays (w .medium) l ev (w .live) (J .lives))
+      lasts (next tags (g .reserved) w ev) (note M l (noted tags (g .reserved) w ev)) es (plays (w .medium) l ev (w .live) (J .lives))
 
   -- ---- what a quiet world agrees with
 
   read-passes : (v : List ℕ) (l : Ledger) (n m : ℕ) (st : List ℕ) → Disk tag g v₀ v (l .contents) → AtFilling tag g v₀ v l n m st
-      → (k : ℕ) (loan : List ℕ) → length loan ≡ 512 → k < g .provided → firstMet (readRows tag (stateAt g n m Filling) v st k loan) passed ≡ passed
+      → (k : ℕ) (loan : List ℕ) → length loan ≡ 512 → k < g .provided → firstMet (readRows tags (stateAt g n m Filling) v st k loan) passed ≡ passed
   read-passes v l n m st D A k loan e h =
-      passes (readRows tag (stateAt g n m Filling) v st k loan) passed (
+      passes (readRows tags (stateAt g n m Filling) v st k loan) passed (
         rw (
           sound tag g v₀ X n m Filling (A .staged .count) (omega (arith, A .next)) refl,
           sound-volume tag g v₀ X v n m Filling (D .sized) refl,
@@ -198,15 +198,15 @@ module _ (tag : Tag) (g : Layout) (v₀ : List ℕ) (X : Setting tag g v₀) whe
 
   read-gives : (v : List ℕ) (l : Ledger) (n m : ℕ) (st : List ℕ) → Disk tag g v₀ v (l .contents) → AtFilling tag g v₀ v l n m st
       → (k : ℕ) (loan : List ℕ) → length loan ≡ 512 → k < g .provided
-      → readOf tag (stateAt g n m Filling) v st k loan ≡ record { answer = Found; sector = lastFor (l .batch) k (l .contents k) }
+      → readOf tags (stateAt g n m Filling) v st k loan ≡ record { answer = passed; sector = lastFor (l .batch) k (l .contents k) }
   unfolding readOf
   read-gives v l n m st D A k loan e h =
       rw (read-passes v l n m st D A k loan e h)
-      (ap (λ (b : List ℕ). record { answer = Found; sector = b }) (newest-last (g .width) st n k (sectorAt v (dataAt g k)) ∙ rw (A .batch, A .clean k h .0)))
+      (ap (λ (b : List ℕ). record { answer = passed; sector = b }) (newest-last (g .width) st n k (sectorAt v (dataAt g k)) ∙ rw (A .batch, A .clean k h .0)))
 
   settled-filling : (v : List ℕ) (l : Ledger) (s : State) (st : List ℕ) → Lives tag g v₀ v l (on s st) → FillsLive (on s st)
-      → Filled tag g v₀ X v l s st
-  settled-filling v l s st A f = filled tag g v₀ X v l s st A (go (s .phase) f)
+      → Filled tags g v₀ X v l s st
+  settled-filling v l s st A f = filled tags g v₀ X v l s st A (go (s .phase) f)
     where
       go : (p : Phase) → Fills p → isFilling p ≡ true
       go Filling f = refl
@@ -214,12 +214,12 @@ module _ (tag : Tag) (g : Layout) (v₀ : List ℕ) (X : Setting tag g v₀) whe
       go (WritingBack i h) f = absurd f
       go (Recovering k) f = absurd f
 
-  reads-from : (v : List ℕ) (l : Ledger) (s : State) (st : List ℕ) → Filled tag g v₀ X v l s st
+  reads-from : (v : List ℕ) (l : Ledger) (s : State) (st : List ℕ) → Filled tags g v₀ X v l s st
       → (k : ℕ) (loan : List ℕ) → length loan ≡ 512 → k < g .provided
-      → readOf tag s v st k loan ≡ record { answer = Found; sector = lastFor (l .batch) k (l .contents k) }
+      → readOf tags s v st k loan ≡ record { answer = passed; sector = lastFor (l .batch) k (l .contents k) }
   reads-from v l s st (it n m _ D A) = read-gives v l n m st D A
 
-  homes-from : (v : List ℕ) (l : Ledger) (s : State) (st : List ℕ) → Filled tag g v₀ X v l s st
+  homes-from : (v : List ℕ) (l : Ledger) (s : State) (st : List ℕ) → Filled tags g v₀ X v l s st
       → Disk tag g v₀ v (l .contents) × ((k : ℕ) → k < g .provided → Home g tag v k (l .contents k))
   homes-from v l s st (it n m _ D A) = (D, A .clean)
 
@@ -228,7 +228,7 @@ module _ (tag : Tag) (g : Layout) (v₀ : List ℕ) (X : Setting tag g v₀) whe
   all-home v l off A f = absurd f
   all-home v l (on s st) A f = homes-from v l s st (settled-filling v l s st A f)
 
-  agrees : (w : World) (l : Ledger) → I w l → w .settled ≡ true → Agrees tag g v₀ w l
+  agrees : (w : World) (l : Ledger) → I w l → w .settled ≡ true → Agrees tags g v₀ w l
   agrees w l J q =
       let a = all-home (w .medium) l (w .live) (J .lives) (J .fills q) in
       record {
@@ -243,24 +243,24 @@ module _ (tag : Tag) (g : Layout) (v₀ : List ℕ) (X : Setting tag g v₀) whe
 
 -- DEMAND 3
 pub demand3 : Demand3
-demand3 tag g sz v e es q =
-    let F : Fresh tag g (formatOf tag g v .volume) = format-fresh tag g v sz e in
-    let v₀ : List ℕ = formatOf tag g v .volume in
-    let X : Setting tag g (formatOf tag g v .volume) = setting tag g sz (formatOf tag g v .volume) F in
-    agrees tag g v₀ X _ _ (lasts tag g v₀ X (begin v₀) start es (starts tag g v₀ X F)) q
+demand3 tags g sz v e es q =
+    let F : Fresh (tags (g .width)) g (formatOf tags g v .volume) = format-fresh tags g v sz e in
+    let v₀ : List ℕ = formatOf tags g v .volume in
+    let X : Setting (tags (g .width)) g (formatOf tags g v .volume) = setting (tags (g .width)) g sz (formatOf tags g v .volume) F in
+    agrees tags g v₀ X _ _ (lasts tags g v₀ X (begin v₀) start es (starts tags g v₀ X F)) q
 
 -- document 01's tag has T bytes, for every T in range
 tag-length : (t : ℕ) → t ≤ 32 → (s : ℕ) (b : List ℕ) → length (tagOf t s b) ≡ t
 tag-length t h s b = length-take-le t (sha256 (le 8 s ++ b)) (rw (length-sha256 (le 8 s ++ b)) h)
 
-pub formatted-length : (g : Layout) (v : List ℕ) → formatOf (tagOf (g .width)) g v .answer ≡ Formatted → (s : ℕ) (b : List ℕ) → length (tagOf (g .width) s b) ≡ g .width
-formatted-length g v e = tag-length (g .width) (size-bound (ranged g (format-layout (tagOf (g .width)) g v e) .t))
+pub formatted-length : (g : Layout) (v : List ℕ) → formatOf tagOf g v .answer ≡ passed → (s : ℕ) (b : List ℕ) → length (tagOf (g .width) s b) ≡ g .width
+formatted-length g v e = tag-length (g .width) (size-bound (ranged g (format-layout tagOf g v e) .t))
 
 pub demand3-sha256 : Demand3Sha256
-demand3-sha256 g v e = demand3 (tagOf (g .width)) g (formatted-length g v e) v e
+demand3-sha256 g v e = demand3 tagOf g (formatted-length g v e) v e
 
 -- a volume that format left
 pub fresh-opens : FreshOpens
-fresh-opens tag g sz v e =
-    let F : Fresh tag g (formatOf tag g v .volume) = format-fresh tag g v sz e in
-    opens-fresh tag g (formatOf tag g v .volume) (setting tag g sz (formatOf tag g v .volume) F) F
+fresh-opens tags g sz v e =
+    let F : Fresh (tags (g .width)) g (formatOf tags g v .volume) = format-fresh tags g v sz e in
+    opens-fresh tags g (formatOf tags g v .volume) (setting (tags (g .width)) g sz (formatOf tags g v .volume) F) F

@@ -10,6 +10,7 @@ use lib.Pow.{pow-pos}
 use lib.ListN.{length, take, drop, replicate, length-append, length-drop, length-replicate}
 use lib.Seq.{take-at, length-take-le, drop-append-add}
 use borrow.Author.Tests.{ltb-false}
+use Rattle.octets.specs.Answer.{refused}
 use Rattle.octets.specs.Numbers.{le}
 use Rattle.octets.specs.Parts.{part}
 use Rattle.octets.specs.Sectors.{sectorAt}
@@ -18,11 +19,10 @@ use Rattle.model.specs.Layout.{sectionSize, sectionAt, base, runLength, 
 use Rattle.model.specs.Section.{collect}
 use Rattle.model.specs.Superblock.{superblockOf, superblockAt}
 use Rattle.model.proofs.Sections.{length-collect, part-collect}
-use Rattle.model.specs.Tag.{Tag, tagAt}
+use Rattle.model.specs.Tag.{Tag, Tags, tagAt}
 use Rattle.model.specs.State.{volumeLoanOk, Verdict, passed}
 use Rattle.octets.specs.Choice.{firstMet, Unmet}
 use Rattle.octets.proofs.Choice.{unmet}
-use Rattle.model.specs.declared.FormatAnswer.the-variants.{Formatted, Refused}
 use Rattle.model.specs.Format.{zeros, freshTags, freshRun, lastRun, lastLength, freshVolume, formatRows, formatBy, formatOf}
 use Rattle.model.proofs.Batches.{refused-not, Seen, isPassed, isRefused, seen, not-not}
 use Rattle.model.proofs.Addresses.{Ranged, ranged, tag-in-area, base-room}
@@ -247,33 +247,33 @@ module _ (tag : Tag) (g : Layout) (R : Ranged g) (sz : (s : ℕ) (b : List ℕ) 
       }
 
 -- a taken format leaves a fresh volume
-module _ (tag : Tag) (g : Layout) (v : List ℕ) where
+module _ (tags : Tags) (g : Layout) (v : List ℕ) where
   abbrev verdict : Verdict
   verdict = firstMet (formatRows g v) passed
 
   format-unmet : verdict ≡ passed → Unmet (formatRows g v)
   format-unmet e = unmet (formatRows g v) passed (refused-not _, (refused-not _, (refused-not _, (refused-not _, tt)))) e
 
-  format-passed : formatOf tag g v .answer ≡ Formatted → verdict ≡ passed
+  format-passed : formatOf tags g v .answer ≡ passed → verdict ≡ passed
   unfolding formatOf
   format-passed e = go (seen verdict)
     where
       go : Seen verdict → verdict ≡ passed
       go (isPassed p) = p
       go (isRefused r p) =
-          let z : Refused r ≡ Formatted = sym (ap (λ (x : Verdict). formatBy tag g v x .answer) p) ∙ e in
+          let z : refused r ≡ passed = sym (ap (λ (x : Verdict). formatBy (tags (g .width)) g v x .answer) p) ∙ e in
           absurd (let y : _≡_ {A = ℕ} 0 1 = cc in omega arith)
 
   passed-layout : verdict ≡ passed → layoutOk g ≡ true
   passed-layout p = not-not (layoutOk g) (format-unmet p .1 .0)
 
-  pub format-layout : formatOf tag g v .answer ≡ Formatted → layoutOk g ≡ true
+  pub format-layout : formatOf tags g v .answer ≡ passed → layoutOk g ≡ true
   format-layout e = passed-layout (format-passed e)
 
-  pub format-fresh : ((s : ℕ) (b : List ℕ) → length (tag s b) ≡ g .width) → formatOf tag g v .answer ≡ Formatted → Fresh tag g (formatOf tag g v .volume)
+  pub format-fresh : ((s : ℕ) (b : List ℕ) → length (tags (g .width) s b) ≡ g .width) → formatOf tags g v .answer ≡ passed → Fresh (tags (g .width)) g (formatOf tags g v .volume)
   unfolding formatOf
   format-fresh sz e =
       let p : verdict ≡ passed = format-passed e in
       let u : Unmet (formatRows g v) = format-unmet p in
       let ok : layoutOk g ≡ true = passed-layout p in
-      rw p (formatted tag g (ranged g ok) sz ok v (not-not (volumeLoanOk v) (u .0)) (ltb-false (length v) (needed g * 512) (u .1 .1 .0)))
+      rw p (formatted (tags (g .width)) g (ranged g ok) sz ok v (not-not (volumeLoanOk v) (u .0)) (ltb-false (length v) (needed g * 512) (u .1 .1 .0)))

@@ -9,21 +9,20 @@ use native.Mathlib.Decide.{decLt, ℕ-discrete}
 use lib.ListN.{length, replicate}
 use lib.Dec.{eqb}
 use borrow.Author.Tests.{eq-eqb, ne-eqb, lt-ltb, le-ltb}
+use Rattle.octets.specs.Answer.{Answer, taken, refused, refuse, isTaken}
 use Rattle.model.specs.declared.Layout.{Layout}
-use Rattle.model.specs.declared.OpenAnswer.the-variants.{Opened, Refused}
-use Rattle.model.specs.declared.Refusal.the-variants.{Malformed}
 use Rattle.model.specs.declared.Phase.{Phase}
 use Rattle.model.specs.declared.Phase.the-variants.{Committing, WritingBack, Recovering}
 use Rattle.model.specs.declared.State.{State}
 use Rattle.model.specs.Layout.{sectionSize, needed}
 use Rattle.model.specs.Section.{Entry, entryOf, emptySection}
 use Rattle.model.specs.Journal.{greatestId, replay}
-use Rattle.model.specs.Tag.{Tag, tagOf}
+use Rattle.model.specs.Tag.{Tag, Tags, tagOf}
 use Rattle.model.specs.Store.{storesOf}
 use Rattle.model.specs.State.{stagingOk, passed}
 use Rattle.model.specs.Step.{StepResult, commitStep, homeStep, phaseStep, stepOf}
 use Rattle.model.specs.Ledger.{hasLast, Ledger, start, entersNext}
-use Rattle.model.specs.World.{off, on, World, stepTaken, stepAcknowledges, stepSettles, openTaken, anOpen, aStep, begin, next, after}
+use Rattle.model.specs.World.{off, on, World, stepAcknowledges, stepSettles, anOpen, aStep, begin, next, after}
 use Rattle.model.proofs.Addresses.{base-room, data-room, tag-room, tag-inside, tag-sector}
 use Rattle.model.proofs.Plans.{at-get}
 use Rattle.model.proofs.Invariant.{Setting, stateAt, Disk, AtRecover, Lives, stopped, filling, committing, writingBack, recovering}
@@ -52,7 +51,7 @@ eqb-swap a b = go (ℕ-discrete a b)
 -- ---- what a step answers
 
 home-taken : (s : State) (v st : List ℕ) (e : Entry) (h : ℕ) (last : Bool) (p : Phase) (left : List ℕ)
-    → (stepTaken (homeStep s v st e h last p left .answer) ≡ true) × (stepAcknowledges (homeStep s v st e h last p left .answer) ≡ false)
+    → (isTaken (homeStep s v st e h last p left .answer) ≡ true) × (stepAcknowledges (homeStep s v st e h last p left .answer) ≡ false)
 unfolding homeStep
 home-taken s v st e h true p left = (refl, refl)
 home-taken s v st e h false p left = (refl, refl)
@@ -64,7 +63,7 @@ home-settles s v st e h true p left = refl
 home-settles s v st e h false p left = refl
 
 abbrev Answers : Ledger → StepResult → Type 0
-Answers l o = (stepTaken (o .answer) ≡ true) × (stepAcknowledges (o .answer) ≡ entersNext l)
+Answers l o = (isTaken (o .answer) ≡ true) × (stepAcknowledges (o .answer) ≡ entersNext l)
 
 home-answers : (l : Ledger) → l .due ≡ [] → (s : State) (v st : List ℕ) (e : Entry) (h : ℕ) (last : Bool) (p : Phase) (left : List ℕ)
     → Answers l (homeStep s v st e h last p left)
@@ -89,24 +88,27 @@ module _ (tag : Tag) (g : Layout) (v₀ : List ℕ) where
 
 -- ---- the invariant's facts, after a list of events
 
-module _ (tag : Tag) (g : Layout) (v₀ : List ℕ) (X : Setting tag g v₀) where
+module _ (tags : Tags) (g : Layout) (v₀ : List ℕ) (X : Setting (tags (g .width)) g v₀) where
+  abbrev tag : Tag
+  tag = tags (g .width)
+
   abbrev Keeps : World → Ledger → Type 0
-  Keeps = I tag g v₀ X
+  Keeps = I tags g v₀ X
 
   runs : (v : List ℕ) (l : Ledger) (s : State) (st : List ℕ) → Lives tag g v₀ v l (on s st) → stepOf s v st ≡ phaseStep s v st (s .phase)
   runs = live-runs tag g v₀ X
 
   opened : (v : List ℕ) (l : Ledger) → Disk tag g v₀ v (l .contents) → (st : List ℕ) → length st ≡ sectionSize (g .width) * 512
-      → openOf tag (g .reserved) v st ≡ openBy g v st passed
+      → openOf tags (g .reserved) v st ≡ openBy g v st passed
   opened v l D st e =
-      open-runs tag g v₀ X v l D st
+      open-runs tags g v₀ X v l D st
       (staging-ok g st e)
 
   answers : (v : List ℕ) (l : Ledger) (s : State) (st : List ℕ) → Lives tag g v₀ v l (on s st) → Answers l (stepOf s v st)
   answers v l s st A = subst (Answers l) (sym (runs v l s st A)) (phase-answers tag g v₀ v l s st A)
 
   opens-taken : (v : List ℕ) (l : Ledger) → Lives tag g v₀ v l off → (st : List ℕ) → length st ≡ sectionSize (g .width) * 512
-      → openTaken (openOf tag (g .reserved) v st .answer) ≡ true
+      → isTaken (openOf tags (g .reserved) v st .answer) ≡ true
   opens-taken v l (stopped D b d) st e = rw (opened v l D st e)
 
   -- ---- the stores of a recovery, one step each
@@ -126,7 +128,7 @@ module _ (tag : Tag) (g : Layout) (v₀ : List ℕ) (X : Setting tag g v₀) whe
   -- store k is made next: as many steps settle as there are stores from there
   settles : (j : ℕ) (w : World) (l : Ledger) (m k : ℕ) (st : List ℕ) → w .live ≡ on (stateAt g 0 m (Recovering k)) st → Lives tag g v₀ (w .medium) l (w .live)
       → k + suc j ≤ storesOf g (replay g (w .medium))
-      → after tag r w (replicate (suc j) aStep) .settled ≡ eqb (k + suc j) (storesOf g (replay g (w .medium)))
+      → after tags r w (replicate (suc j) aStep) .settled ≡ eqb (k + suc j) (storesOf g (replay g (w .medium)))
   unfolding after
   settles zero w l m k st e A h =
       let B = back (w .medium) l m k st (subst (Lives tag g v₀ (w .medium) l) e A) in
@@ -135,17 +137,17 @@ module _ (tag : Tag) (g : Layout) (v₀ : List ℕ) (X : Setting tag g v₀) whe
   settles (suc j) w l m k st e A h =
       let B = back (w .medium) l m k st (subst (Lives tag g v₀ (w .medium) l) e A) in
       let s : State = stateAt g 0 m (Recovering k) in
-      let one-step = plays tag g v₀ X (w .medium) l aStep (w .live) A in
-      let same : storesOf g (replay g (next tag r w aStep .medium)) ≡ storesOf g (replay g (w .medium)) =
+      let one-step = plays tags g v₀ X (w .medium) l aStep (w .live) A in
+      let same : storesOf g (replay g (next tags r w aStep .medium)) ≡ storesOf g (replay g (w .medium)) =
       rw (e, runs (w .medium) l s st (recovering m k st (B .0) (B .1)))
       (ap (storesOf g) (replay-stays tag g v₀ X
       (w .medium) l (B .0) m k st (B .1))) in
-      let live : next tag r w aStep .live ≡ on (stateAt g 0 m (Recovering (k + 1))) st =
+      let live : next tags r w aStep .live ≡ on (stateAt g 0 m (Recovering (k + 1))) st =
       rw (e, runs (w .medium) l s st (recovering m k st (B .0) (B .1)))
       (recover-next tag g v₀ X
       (w .medium) l (B .0) m k st (B .1) (omega arith)) in
       let sum : k + 1 + suc j ≡ k + suc (suc j) = omega arith in
-      settles j (next tag r w aStep) _ m (k + 1) st live (one-step .lives) (rw (same, sum) h)
+      settles j (next tags r w aStep) _ m (k + 1) st live (one-step .lives) (rw (same, sum) h)
       ∙ rw (same, sum)
 
   -- ---- open's number
@@ -154,33 +156,37 @@ module _ (tag : Tag) (g : Layout) (v₀ : List ℕ) (X : Setting tag g v₀) whe
   opened-state v z = rw (ne-eqb (storesOf g (replay g v)) 0 z)
 
   counted : (w : World) (l : Ledger) (st : List ℕ) → w .live ≡ off → Lives tag g v₀ (w .medium) l (w .live)
-      → openOf tag r (w .medium) st ≡ openBy g (w .medium) st passed
-      → (k : ℕ) → k ≤ storesOf g (replay g (w .medium)) → after tag r w (anOpen st ∷ replicate k aStep) .settled ≡ eqb k (storesOf g (replay g (w .medium)))
+      → openOf tags r (w .medium) st ≡ openBy g (w .medium) st passed
+      → (k : ℕ) → k ≤ storesOf g (replay g (w .medium)) → after tags r w (anOpen st ∷ replicate k aStep) .settled ≡ eqb k (storesOf g (replay g (w .medium)))
   unfolding after
   counted w l st e A o zero h = rw (e, o) (eqb-swap (storesOf g (replay g (w .medium))) 0)
   counted w l st e A o (suc j) h =
-      let opening = plays tag g v₀ X (w .medium) l (anOpen st) (w .live) A in
-      let live : next tag r w (anOpen st) .live ≡ on (stateAt g 0 (greatestId g (w .medium) + 1) (Recovering 0)) (emptySection (g .width)) =
+      let opening = plays tags g v₀ X (w .medium) l (anOpen st) (w .live) A in
+      let live : next tags r w (anOpen st) .live ≡ on (stateAt g 0 (greatestId g (w .medium) + 1) (Recovering 0)) (emptySection (g .width)) =
       rw (e, o) (ap (λ (s : State). on s (emptySection (g .width))) (opened-state (w .medium) (omega arith))) in
-      let same : next tag r w (anOpen st) .medium ≡ w .medium = rw e in
+      let same : next tags r w (anOpen st) .medium ≡ w .medium = rw e in
       let sum : 0 + suc j ≡ suc j = omega arith in
-      settles j (next tag r w (anOpen st)) _ (greatestId g (w .medium) + 1) 0 (emptySection (g .width)) live (opening .lives) (rw (same, sum) h)
+      settles j (next tags r w (anOpen st)) _ (greatestId g (w .medium) + 1) 0 (emptySection (g .width)) live (opening .lives) (rw (same, sum) h)
       ∙ rw (same, sum)
 
-  taken-runs : (v : List ℕ) (l : Ledger) → Lives tag g v₀ v l off → (st : List ℕ) (s : State) (n : ℕ) → openOf tag r v st .answer ≡ Opened s n
-      → (openOf tag r v st ≡ openBy g v st passed) × (n ≡ storesOf g (replay g v))
+  taken-runs : (v : List ℕ) (l : Ledger) → Lives tag g v₀ v l off → (st : List ℕ) (s : State) (n : ℕ) → openOf tags r v st .answer ≡ taken (s, n)
+      → (openOf tags r v st ≡ openBy g v st passed) × (n ≡ storesOf g (replay g v))
   taken-runs v l (stopped D b d) st s n e = go (which (stagingOk g st))
     where
-      go : Which (stagingOk g st) → (openOf tag r v st ≡ openBy g v st passed) × (n ≡ storesOf g (replay g v))
+      count : Answer ℕ (State × ℕ) → ℕ
+      count (taken x) = x .1
+      count (refused y) = 0
+
+      go : Which (stagingOk g st) → (openOf tags r v st ≡ openBy g v st passed) × (n ≡ storesOf g (replay g v))
       go (isTrue t) =
-          let o : openOf tag r v st ≡ openBy g v st passed =
-          open-runs tag g v₀ X v l D st t in
-          let a : Opened s n ≡ Opened (openedState g v) (storesOf g (replay g v)) = sym e ∙ ap (λ (x : OpenResult). x .answer) o in
-          (o, cc)
+          let o : openOf tags r v st ≡ openBy g v st passed =
+          open-runs tags g v₀ X v l D st t in
+          let a : _≡_ {A = Answer ℕ (State × ℕ)} (taken (s, n)) (taken (openedState g v, storesOf g (replay g v))) = sym e ∙ ap (λ (x : OpenResult). x .answer) o in
+          (o, ap count a)
       go (isFalse f) =
-          let o : openOf tag r v st ≡ record { answer = Refused Malformed; staging = st } =
-          open-refused tag g v₀ X v l D st f in
-          let a : Opened s n ≡ Refused Malformed = sym e ∙ ap (λ (x : OpenResult). x .answer) o in
+          let o : openOf tags r v st ≡ record { answer = refuse 1 []; staging = st } =
+          open-refused tags g v₀ X v l D st f in
+          let a : _≡_ {A = Answer ℕ (State × ℕ)} (taken (s, n)) (refuse 1 []) = sym e ∙ ap (λ (x : OpenResult). x .answer) o in
           absurd (let z : _≡_ {A = ℕ} 0 1 = cc in omega arith)
 
   -- ---- what no step changes
@@ -202,7 +208,7 @@ module _ (tag : Tag) (g : Layout) (v₀ : List ℕ) (X : Setting tag g v₀) whe
   lives-layout v l s st (writingBack n m i h _ D A) = refl
   lives-layout v l s st (recovering m k _ D A) = refl
 
-  all-hold : (w : World) (l : Ledger) → Keeps w l → Guarantees tag g v₀ w l
+  all-hold : (w : World) (l : Ledger) → Keeps w l → Guarantees tags g v₀ w l
   all-hold w l J =
       record {
         opens = λ st e h. opens-taken (w .medium) l (subst (Lives tag g v₀ (w .medium) l) e (J .lives)) st h;
@@ -211,18 +217,18 @@ module _ (tag : Tag) (g : Layout) (v₀ : List ℕ) (X : Setting tag g v₀) whe
         counts = λ st s n e o k h.
             let a = taken-runs (w .medium) l (subst (Lives tag g v₀ (w .medium) l) e (J .lives)) st s n o in
             rw (a .1) (counted w l st e (J .lives) (a .0) k (rw (a .1) at h));
-        layout = decoded tag g v₀ X (w .medium) l (disk w l J);
+        layout = decoded tags g v₀ X (w .medium) l (disk w l J);
         live = λ s st e. lives-layout (w .medium) l s st (subst (Lives tag g v₀ (w .medium) l) e (J .lives));
         untouched = λ b o. disk w l J .kept b o;
         behind = λ a h. part-bytes (w .medium) v₀ (a * 512) 512 (disk w l J .sized) (λ i k. disk w l J .kept (a * 512 + i) (outside-behind (a * 512 + i) (omega arith)));
       }
 
 pub guaranteed : Guaranteed
-guaranteed tag g sz v e es =
-    let F : Fresh tag g (formatOf tag g v .volume) = format-fresh tag g v sz e in
-    let X : Setting tag g (formatOf tag g v .volume) = setting tag g sz (formatOf tag g v .volume) F in
-    all-hold tag g (formatOf tag g v .volume) X _ _
-    (lasts tag g (formatOf tag g v .volume) X (begin (formatOf tag g v .volume)) start es (starts tag g (formatOf tag g v .volume) X F))
+guaranteed tags g sz v e es =
+    let F : Fresh (tags (g .width)) g (formatOf tags g v .volume) = format-fresh tags g v sz e in
+    let X : Setting (tags (g .width)) g (formatOf tags g v .volume) = setting (tags (g .width)) g sz (formatOf tags g v .volume) F in
+    all-hold tags g (formatOf tags g v .volume) X _ _
+    (lasts tags g (formatOf tags g v .volume) X (begin (formatOf tags g v .volume)) start es (starts tags g (formatOf tags g v .volume) X F))
 
 pub guaranteed-sha256 : GuaranteedSha256
-guaranteed-sha256 g v e = guaranteed (tagOf (g .width)) g (formatted-length g v e) v e
+guaranteed-sha256 g v e = guaranteed tagOf g (formatted-length g v e) v e

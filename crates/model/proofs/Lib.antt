@@ -24,3 +24,4 @@ pub mod Advances
 pub mod ReadBack
 pub mod FirstRule
 pub mod NextStore
+pub mod Refusals

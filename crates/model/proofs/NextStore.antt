@@ -8,25 +8,24 @@ use native.Mathlib.Omega.{arith}
 use lib.Dec.{leb, ltb}
 use lib.ListN.{length}
 use borrow.Author.Tests.{leb-false}
+use Rattle.octets.specs.Answer.{Refusal, taken, refused, refusal, refuse, isTaken}
 use Rattle.octets.specs.Choice.{pick, firstMet}
 use Rattle.octets.specs.Sectors.{sectorAt}
 use Rattle.octets.proofs.Parts.{length-part, length-patch}
 use Rattle.model.specs.declared.Layout.{Layout}
 use Rattle.model.specs.declared.Phase.{Phase}
 use Rattle.model.specs.declared.Phase.the-variants.{Filling, Committing, WritingBack, Recovering}
-use Rattle.model.specs.declared.Refusal.{Refusal}
-use Rattle.model.specs.declared.Refusal.the-variants.{Malformed, StagedRange, JournalRange}
 use Rattle.model.specs.declared.State.{State}
 use Rattle.model.specs.Layout.{sectionSize, tagSector, tagOffset, needed, layoutOk}
 use Rattle.model.specs.Section.{Entry}
 use Rattle.model.specs.Journal.{sectionFor, replay}
-use Rattle.model.specs.Tag.{Tag, tagOf}
+use Rattle.model.specs.Tag.{Tags, tagOf}
 use Rattle.model.specs.Store.{one, afterEffect, contentOf, homeStore, Place, storeOf}
-use Rattle.model.specs.State.{passed, refused, stateOk, volumeOk, stagingOk, sectorOk}
+use Rattle.model.specs.State.{passed, stateOk, volumeOk, stagingOk, sectorOk}
 use Rattle.model.specs.Format.{formatOf}
 use Rattle.model.specs.Step.{StepResult, placeAt, placeRow, rangeRows, stagedEntry, commitStore, commitStep, homeStep, recoverPlace, phaseStep, stepBy, stepOf}
 use Rattle.model.specs.Ledger.{Ledger, Noted, stepped, start, note, noteAll}
-use Rattle.model.specs.World.{Event, aStep, aRead, Live, off, on, World, Medium, begin, unmoved, stepTaken, stepWorld, play, tell, next, noted, after, transcript}
+use Rattle.model.specs.World.{Event, aStep, aRead, Live, off, on, World, Medium, begin, unmoved, stepWorld, play, tell, next, noted, after, transcript}
 use Rattle.model.specs.Demand3.{Agrees}
 use Rattle.model.specs.NextStore.{nextStoreOf, storeNamed, Placed, Within, sectorNamed, sectorStored, StepStores, OwnerEvent, plain, aNextStore, ownerWorld, ownerStep, ownerTaken, ownerNext, ownerNoted, ownerAfter, ownerTranscript, Demand3Owner, Demand3OwnerSha256}
 use Rattle.model.proofs.Addresses.{and-both, size-bound, Ranged, ranged, data-high, tag-high, data-room, tag-room, tag-inside, section-low, base-room}
@@ -46,7 +45,7 @@ module _ (s : State) (v st : List ℕ) where
     sector : sectorNamed (o .answer) ≡ sectorStored (o .effect)
     made : (out : List ℕ) → storeNamed v (o .answer) (contentOf out (o .effect)) ≡ afterEffect v (o .effect)
 
-  refusing : (r : Refusal) → Stores (stepBy s v st (refused r))
+  refusing : (r : Refusal ℕ) → Stores (stepBy s v st (refused r))
   refusing r = record { within = tt; sector = refl; made = λ out. refl }
 
   module _ (sound : stateOk s ≡ true) (fits : volumeOk s v ≡ true) (staging : stagingOk (s .layout) st ≡ true) where
@@ -110,7 +109,7 @@ module _ (s : State) (v st : List ℕ) where
       bringing h false p left = record { within = home-placed h; sector = refl; made = λ out. refl }
 
     -- a phase with a row, and what its step does where that is not met
-    by-row : (b : Bool) (r : Refusal) → (b ≡ false → Stores (phaseStep s v st (s .phase))) → Stores (stepBy s v st (firstMet ((b, refused r) ∷ []) passed))
+    by-row : (b : Bool) (r : Refusal ℕ) → (b ≡ false → Stores (phaseStep s v st (s .phase))) → Stores (stepBy s v st (firstMet ((b, refused r) ∷ []) passed))
     by-row true r f = refusing r
     by-row false r f = f refl
 
@@ -120,14 +119,14 @@ module _ (s : State) (v st : List ℕ) where
     writing-back : (i h : ℕ) → s .phase ≡ WritingBack i h → Stores (stepBy s v st (firstMet (rangeRows s v st (WritingBack i h)) passed))
     writing-back i h q =
         let i-low = state-writing-back s sound i h q .1 in
-        by-row (leb (g .provided) (stagedEntry s st i .sector)) (StagedRange i)
+        by-row (leb (g .provided) (stagedEntry s st i .sector)) (refusal 6 (i ∷ []))
         (λ n. at-phase (WritingBack i h) q
         (bringing (stagedEntry s st i) (leb-false (g .provided) (stagedEntry s st i .sector) n)
         (bytes-length (g .width) i (size-bound (R .t)) i-low st staged) (tag-length (g .width) i (size-bound (R .t)) i-low st staged) h _ _ _))
 
     recovering : (k : ℕ) → s .phase ≡ Recovering k → (p : Place) → placeAt g v k ≡ p → PlaceOf g (Complete g) p → Stores (stepBy s v st (firstMet (placeRow g p ∷ []) passed))
     recovering k q (storeOf x h) e c =
-        by-row (leb (g .provided) (x .entry .sector)) (JournalRange (x .section) (x .place))
+        by-row (leb (g .provided) (x .entry .sector)) (refusal 6 (x .section ∷ x .place ∷ []))
         (λ n. at-phase (Recovering k) q
         (subst (λ (y : Place). Stores (recoverPlace s v st k y)) (sym e)
         (bringing (x .entry) (leb-false (g .provided) (x .entry .sector) n) (c .0 .whole) (c .0 .sized) h _ _ _)))
@@ -144,7 +143,7 @@ module _ (s : State) (v st : List ℕ) where
   stores = go (which (stateOk s && (volumeOk s v && stagingOk (s .layout) st)))
     where
       go : Which (stateOk s && (volumeOk s v && stagingOk (s .layout) st)) → Stores (stepOf s v st)
-      go (isFalse e) = rw e (refusing Malformed)
+      go (isFalse e) = rw e (refusing (refusal 1 []))
       go (isTrue e) =
           let a = and-both (stateOk s) _ e in
           let b = and-both (volumeOk s v) _ (a .1) in
@@ -157,7 +156,7 @@ module _ (s : State) (v st : List ℕ) where
   pub step-stores : StepStores s v st
   step-stores = record { within = stores .within; sector = stores .sector; told = next-told; made = stores .made }
 
-  next-refused : (out : List ℕ) → sectorOk out ≡ false → nextStoreOf s v st out ≡ stepBy s v st (refused Malformed)
+  next-refused : (out : List ℕ) → sectorOk out ≡ false → nextStoreOf s v st out ≡ stepBy s v st (refuse 1 [])
   unfolding nextStoreOf
   next-refused out e = rw e
 
@@ -172,8 +171,8 @@ abbrev sameEvents : List OwnerEvent → List Event
 sameEvents [] = []
 sameEvents (e ∷ es) = sameEvent e ∷ sameEvents es
 
-module _ (tag : Tag) (r : ℕ) where
-  step-same : (m : Medium) (x : Live) (out : List ℕ) (b : Bool) → sectorOk out ≡ b → ownerStep m x out ≡ play tag r m x (pick b aStep (aRead 0 []))
+module _ (tags : Tags) (r : ℕ) where
+  step-same : (m : Medium) (x : Live) (out : List ℕ) (b : Bool) → sectorOk out ≡ b → ownerStep m x out ≡ play tags r m x (pick b aStep (aRead 0 []))
   step-same m off out true e = refl
   step-same m off out false e = refl
   step-same m (on s st) out true e =
@@ -181,43 +180,43 @@ module _ (tag : Tag) (r : ℕ) where
       ∙ ap (λ (v : Medium). record { medium = v; live = stepWorld m (stepOf s m st) .live; settled = stepWorld m (stepOf s m st) .settled }) (stores s m st .made out)
   step-same m (on s st) out false e = ap (ownerWorld m out) (next-refused s m st out e)
 
-  next-same : (w : World) (e : OwnerEvent) → ownerNext tag r w e ≡ next tag r w (sameEvent e)
+  next-same : (w : World) (e : OwnerEvent) → ownerNext tags r w e ≡ next tags r w (sameEvent e)
   next-same w (plain e) = refl
   next-same w (aNextStore out) = step-same (w .medium) (w .live) out (sectorOk out) refl
 
   told-same : (n : ℕ) (l : Ledger) (m : Medium) (x : Live) (out : List ℕ) (b : Bool) → sectorOk out ≡ b
-      → note n l (ownerTaken m x out) ≡ note n l (tell tag r m x (pick b aStep (aRead 0 [])))
+      → note n l (ownerTaken m x out) ≡ note n l (tell tags r m x (pick b aStep (aRead 0 [])))
   told-same n l m off out true e = refl
   told-same n l m off out false e = refl
-  told-same n l m (on s st) out true e = ap (λ (o : StepResult). note n l (stepped (stepTaken (o .answer)))) (next-told s m st out e)
-  told-same n l m (on s st) out false e = ap (λ (o : StepResult). note n l (stepped (stepTaken (o .answer)))) (next-refused s m st out e)
+  told-same n l m (on s st) out true e = ap (λ (o : StepResult). note n l (stepped (isTaken (o .answer)))) (next-told s m st out e)
+  told-same n l m (on s st) out false e = ap (λ (o : StepResult). note n l (stepped (isTaken (o .answer)))) (next-refused s m st out e)
 
-  note-same : (n : ℕ) (l : Ledger) (w : World) (e : OwnerEvent) → note n l (ownerNoted tag r w e) ≡ note n l (noted tag r w (sameEvent e))
+  note-same : (n : ℕ) (l : Ledger) (w : World) (e : OwnerEvent) → note n l (ownerNoted tags r w e) ≡ note n l (noted tags r w (sameEvent e))
   note-same n l w (plain e) = refl
   note-same n l w (aNextStore out) = told-same n l (w .medium) (w .live) out (sectorOk out) refl
 
-  after-same : (w : World) (es : List OwnerEvent) → ownerAfter tag r w es ≡ after tag r w (sameEvents es)
+  after-same : (w : World) (es : List OwnerEvent) → ownerAfter tags r w es ≡ after tags r w (sameEvents es)
   unfolding ownerAfter after
   after-same w [] = refl
-  after-same w (e ∷ es) = after-same (ownerNext tag r w e) es ∙ ap (λ (x : World). after tag r x (sameEvents es)) (next-same w e)
+  after-same w (e ∷ es) = after-same (ownerNext tags r w e) es ∙ ap (λ (x : World). after tags r x (sameEvents es)) (next-same w e)
 
-  ledger-same : (n : ℕ) (l : Ledger) (w : World) (es : List OwnerEvent) → noteAll n l (ownerTranscript tag r w es) ≡ noteAll n l (transcript tag r w (sameEvents es))
+  ledger-same : (n : ℕ) (l : Ledger) (w : World) (es : List OwnerEvent) → noteAll n l (ownerTranscript tags r w es) ≡ noteAll n l (transcript tags r w (sameEvents es))
   unfolding ownerTranscript transcript
   ledger-same n l w [] = refl
   ledger-same n l w (e ∷ es) =
-      ledger-same n (note n l (ownerNoted tag r w e)) (ownerNext tag r w e) es
-      ∙ ap (λ (k : Ledger). noteAll n k (transcript tag r (ownerNext tag r w e) (sameEvents es))) (note-same n l w e)
-      ∙ ap (λ (x : World). noteAll n (note n l (noted tag r w (sameEvent e))) (transcript tag r x (sameEvents es))) (next-same w e)
+      ledger-same n (note n l (ownerNoted tags r w e)) (ownerNext tags r w e) es
+      ∙ ap (λ (k : Ledger). noteAll n k (transcript tags r (ownerNext tags r w e) (sameEvents es))) (note-same n l w e)
+      ∙ ap (λ (x : World). noteAll n (note n l (noted tags r w (sameEvent e))) (transcript tags r x (sameEvents es))) (next-same w e)
 
 pub demand3-owner : Demand3Owner
-demand3-owner tag g sz v e es q =
-    let w₀ : World = begin (formatOf tag g v .volume) in
-    let v₀ : List ℕ = formatOf tag g v .volume in
-    let world = after-same tag (g .reserved) w₀ es in
-    let ledger = ledger-same tag (g .reserved) (sectionSize (g .width)) start w₀ es in
-    subst (λ (l : Ledger). Agrees tag g v₀ (ownerAfter tag (g .reserved) w₀ es) l) (sym ledger)
-    (subst (λ (w : World). Agrees tag g v₀ w (noteAll (sectionSize (g .width)) start (transcript tag (g .reserved) w₀ (sameEvents es)))) (sym world)
-    (demand3 tag g sz v e (sameEvents es) (sym (ap (λ (w : World). w .settled) world) ∙ q)))
+demand3-owner tags g sz v e es q =
+    let w₀ : World = begin (formatOf tags g v .volume) in
+    let v₀ : List ℕ = formatOf tags g v .volume in
+    let world = after-same tags (g .reserved) w₀ es in
+    let ledger = ledger-same tags (g .reserved) (sectionSize (g .width)) start w₀ es in
+    subst (λ (l : Ledger). Agrees tags g v₀ (ownerAfter tags (g .reserved) w₀ es) l) (sym ledger)
+    (subst (λ (w : World). Agrees tags g v₀ w (noteAll (sectionSize (g .width)) start (transcript tags (g .reserved) w₀ (sameEvents es)))) (sym world)
+    (demand3 tags g sz v e (sameEvents es) (sym (ap (λ (w : World). w .settled) world) ∙ q)))
 
 pub demand3-owner-sha256 : Demand3OwnerSha256
-demand3-owner-sha256 g v e = demand3-owner (tagOf (g .width)) g (formatted-length g v e) v e
+demand3-owner-sha256 g v e = demand3-owner tagOf g (formatted-length g v e) v e

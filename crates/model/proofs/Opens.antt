@@ -9,6 +9,7 @@ use native.Mathlib.Decide.{ℕ-discrete}
 use lib.ListN.{length}
 use lib.Dec.{ltb, eqb}
 use borrow.Author.Tests.{eq-eqb, ne-eqb, le-ltb, lt-leb}
+use Rattle.octets.specs.Answer.{taken, refuse, isTaken}
 use Rattle.octets.proofs.Choice.{passes}
 use Rattle.octets.specs.Parts.{same}
 use Rattle.octets.proofs.Numbers.{value-le}
@@ -18,15 +19,12 @@ use Rattle.model.specs.Section.{allBelow, emptySection}
 use Rattle.model.specs.Journal.{greatestId, wholeIds, Replayed, replay}
 use Rattle.model.specs.Superblock.{superblockOf, layoutIn, superblockAt, superblockOk, isZero}
 use Rattle.model.specs.Store.{homeCount, storesOf}
-use Rattle.model.specs.Tag.{Tag}
+use Rattle.model.specs.Tag.{Tag, Tags}
 use Rattle.model.specs.State.{passed, volumeLoanOk, stagingOk}
 use Rattle.model.specs.Open.{misplaced, openRows, entriesVerdict, OpenResult, openBy, openWith, openOf}
-use Rattle.model.specs.declared.Refusal.the-variants.{Malformed}
-use Rattle.model.specs.declared.OpenAnswer.the-variants.{Refused}
 use Rattle.model.specs.Query.{queryWith, queryOf}
-use Rattle.model.specs.declared.QueryAnswer.the-variants.{Holds}
 use Rattle.model.specs.Ledger.{Ledger, opened as openedNote, note}
-use Rattle.model.specs.World.{openTaken, openWorld}
+use Rattle.model.specs.World.{openWorld}
 use Rattle.model.proofs.Replays.{Which, isTrue, isFalse, which, pass-replays}
 use Rattle.model.proofs.Journals.{Every, writes, all-below}
 use Rattle.model.proofs.Addresses.{size-bound, Ranged, base-room}
@@ -66,8 +64,11 @@ entries-pass tag g (x ∷ xs) q =
     let t : same (x .entry .tag) (tag (x .entry .sector) (x .entry .bytes)) ≡ true = eq-same (x .entry .tag) (tag (x .entry .sector) (x .entry .bytes)) (q .0 .fit) in
     rw (lt-leb (g .provided) (x .entry .sector) (q .0 .low), t) (entries-pass tag g xs (q .1))
 
-module _ (tag : Tag) (g : Layout) (v₀ : List ℕ) (X : Setting tag g v₀)
-    (v : List ℕ) (l : Ledger) (D : Disk tag g v₀ v (l .contents)) where
+module _ (tags : Tags) (g : Layout) (v₀ : List ℕ) (X : Setting (tags (g .width)) g v₀)
+    (v : List ℕ) (l : Ledger) (D : Disk (tags (g .width)) g v₀ v (l .contents)) where
+  abbrev tag : Tag
+  tag = tags (g .width)
+
   abbrev r : ℕ
   r = g .reserved
 
@@ -108,11 +109,11 @@ module _ (tag : Tag) (g : Layout) (v₀ : List ℕ) (X : Setting tag g v₀)
   ids : eqb (greatestId g v) (2 ^ 64 - 1) ≡ false
   ids = ne-eqb (greatestId g v) (2 ^ 64 - 1) (omega (arith, D .top))
 
-  wrong : (st : List ℕ) → stagingOk g st ≡ false → openWith tag g (g .reserved) v st ≡ record { answer = Refused Malformed; staging = st }
+  wrong : (st : List ℕ) → stagingOk g st ≡ false → openWith tags g (g .reserved) v st ≡ record { answer = refuse 1 []; staging = st }
   unfolding openWith
   wrong st e = rw (wholes, low₁, low₂, zero-at, valid-at, low₃, e)
 
-  right : (st : List ℕ) → stagingOk g st ≡ true → openWith tag g (g .reserved) v st ≡ openBy g v st passed
+  right : (st : List ℕ) → stagingOk g st ≡ true → openWith tags g (g .reserved) v st ≡ openBy g v st passed
   unfolding openWith
   right st e =
       ap (openBy g v st)
@@ -120,22 +121,22 @@ module _ (tag : Tag) (g : Layout) (v₀ : List ℕ) (X : Setting tag g v₀)
       (ap not wholes, (low₁, (low₂, (zero-at, (ap not valid-at, (low₃, (ap not e, (ids, (ap not in-place, tt)))))))))
       ∙ entries-pass tag g (replay g v) (replay-goods tag g v₀ v (l .contents) D))
 
-  pub open-runs : (st : List ℕ) → stagingOk g st ≡ true → openOf tag (g .reserved) v st ≡ openBy g v st passed
-  open-runs st e = subst (λ (x : Layout). openWith tag x (g .reserved) v st ≡ openBy g v st passed) (sym decoded) (right st e)
+  pub open-runs : (st : List ℕ) → stagingOk g st ≡ true → openOf tags (g .reserved) v st ≡ openBy g v st passed
+  open-runs st e = subst (λ (x : Layout). openWith tags x (g .reserved) v st ≡ openBy g v st passed) (sym decoded) (right st e)
 
-  pub open-refused : (st : List ℕ) → stagingOk g st ≡ false → openOf tag (g .reserved) v st ≡ record { answer = Refused Malformed; staging = st }
-  open-refused st e = subst (λ (x : Layout). openWith tag x (g .reserved) v st ≡ record { answer = Refused Malformed; staging = st }) (sym decoded) (wrong st e)
+  pub open-refused : (st : List ℕ) → stagingOk g st ≡ false → openOf tags (g .reserved) v st ≡ record { answer = refuse 1 []; staging = st }
+  open-refused st e = subst (λ (x : Layout). openWith tags x (g .reserved) v st ≡ record { answer = refuse 1 []; staging = st }) (sym decoded) (wrong st e)
 
-  asked : queryWith g (g .reserved) v ≡ Holds g (sectionSize (g .width) * 512)
+  asked : queryWith g (g .reserved) v ≡ taken (g, sectionSize (g .width) * 512)
   unfolding queryWith
   asked = rw (wholes, low₁, low₂, zero-at, valid-at, low₃)
 
-  pub query-holds : queryOf (g .reserved) v ≡ Holds g (sectionSize (g .width) * 512)
-  query-holds = subst (λ (x : Layout). queryWith x (g .reserved) v ≡ Holds g (sectionSize (g .width) * 512)) (sym decoded) asked
+  pub query-holds : queryOf (g .reserved) v ≡ taken (g, sectionSize (g .width) * 512)
+  query-holds = subst (λ (x : Layout). queryWith x (g .reserved) v ≡ taken (g, sectionSize (g .width) * 512)) (sym decoded) asked
 
   -- what an open leads to
   abbrev OpenLeads : OpenResult → Type 0
-  OpenLeads o = Inv tag g v₀ X (openWorld v o) (note (sectionSize (g .width)) l (openedNote (openTaken (o .answer))))
+  OpenLeads o = Inv tag g v₀ X (openWorld v o) (note (sectionSize (g .width)) l (openedNote (isTaken (o .answer))))
 
   start-at : (x : Replayed) (xs : List Replayed) → At g (x ∷ xs) 0 0 0
   start-at x xs =
@@ -183,9 +184,9 @@ module _ (tag : Tag) (g : Layout) (v₀ : List ℕ) (X : Setting tag g v₀)
             fills = λ q. never q;
           })
 
-  pub open-keeps : (st : List ℕ) → l .batch ≡ [] → l .due ≡ [] → OpenLeads (openOf tag (g .reserved) v st)
+  pub open-keeps : (st : List ℕ) → l .batch ≡ [] → l .due ≡ [] → OpenLeads (openOf tags (g .reserved) v st)
   open-keeps st b d = go (which (stagingOk g st))
     where
-      go : Which (stagingOk g st) → OpenLeads (openOf tag (g .reserved) v st)
+      go : Which (stagingOk g st) → OpenLeads (openOf tags (g .reserved) v st)
       go (isTrue t) = rw (open-runs st t) (opened b d st)
       go (isFalse f) = rw (open-refused st f) (record { lives = stopped D b d; fills = λ q. never q })

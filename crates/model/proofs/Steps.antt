@@ -11,6 +11,7 @@ use lib.ListN.{length, getD, length-append, List·getD-append}
 use lib.Seq.{getD-at}
 use lib.Dec.{eqb}
 use borrow.Author.Tests.{eq-eqb, ne-eqb, lt-ltb, le-ltb, le-leb, lt-leb}
+use Rattle.octets.specs.Answer.{taken, isTaken}
 use Rattle.octets.specs.Choice.{Unmet}
 use Rattle.model.specs.Layout.{entryCount, sectionSize, sectionAt, needed}
 use Rattle.model.specs.Section.{Entry, entryOf, emptySection}
@@ -23,7 +24,7 @@ use Rattle.model.specs.State.{passed, volumeLoanOk, placeOk, replayOk, s
 use Rattle.model.specs.Step.{noEntry, rangeRows, stepRows, StepResult, commitStep, homeStep, writeBackStep, recoverStep, phaseStep, stepBy, stepOf}
 use Rattle.model.specs.Ledger.{stepped, Write, Ledger, entered, note}
 use Rattle.model.proofs.Ledger.{still, ticks, enters}
-use Rattle.model.specs.World.{Live, off, on, World, stepTaken, stepWorld}
+use Rattle.model.specs.World.{Live, off, on, World, stepWorld}
 use Rattle.model.proofs.Replays.{mentions, mentions-get, Pass, pass-ends, noWrite}
 use Rattle.model.proofs.Journals.{every-get, writes, length-writes, writeOfEntry, batchOf}
 use Rattle.model.proofs.Homes.{Home}
@@ -35,7 +36,6 @@ use Rattle.model.specs.declared.Layout.{Layout}
 use Rattle.model.specs.declared.Phase.{Phase}
 use Rattle.model.specs.declared.Phase.the-variants.{Filling, Committing, WritingBack, Recovering}
 use Rattle.model.specs.declared.State.{State}
-use Rattle.model.specs.declared.StepAnswer.the-variants.{Stepped}
 use Rattle.model.specs.declared.Done.the-variants.{Stored}
 use Rattle.model.specs.declared.Says.the-variants as saying
 
@@ -99,7 +99,7 @@ module _ (tag : Tag) (g : Layout) (v₀ : List ℕ) (X : Setting tag g v₀) whe
 
   -- what a step leads to: the world that it leaves, and the ledger that is told of it
   abbrev pub StepLeads : List ℕ → Ledger → StepResult → Type 0
-  StepLeads v l o = Inv (stepWorld v o) (note (sectionSize (g .width)) l (stepped (stepTaken (o .answer))))
+  StepLeads v l o = Inv (stepWorld v o) (note (sectionSize (g .width)) l (stepped (isTaken (o .answer))))
 
   step-filling : (v : List ℕ) (l : Ledger) (n m : ℕ) (st : List ℕ) → Disk tag g v₀ v (l .contents) → AtFilling tag g v₀ v l n m st
       → StepLeads v l (phaseStep (stateAt g n m Filling) v st Filling)
@@ -149,7 +149,7 @@ module _ (tag : Tag) (g : Layout) (v₀ : List ℕ) (X : Setting tag g v₀) whe
   home-stored : (s : State) (v st : List ℕ) (e : Entry) (h : ℕ) (p : Phase) (left : List ℕ)
       → homeStep s v st e h false p left
       ≡ record {
-        answer = Stepped (Stored (homeStore (s .layout) v e h .at)) saying.Nothing;
+        answer = taken (Stored (homeStore (s .layout) v e h .at), saying.Nothing);
         state = inPhase s p;
         effect = one (homeStore (s .layout) v e h);
         staging = st;
@@ -166,7 +166,7 @@ module _ (tag : Tag) (g : Layout) (v₀ : List ℕ) (X : Setting tag g v₀) whe
   home-filled : (s : State) (v st : List ℕ) (e : Entry) (h : ℕ) (p : Phase) (left : List ℕ)
       → homeStep s v st e h true p left
       ≡ record {
-        answer = Stepped (Stored (homeStore (s .layout) v e h .at)) saying.Filling;
+        answer = taken (Stored (homeStore (s .layout) v e h .at), saying.Filling);
         state = record { layout = s .layout; phase = Filling; count = 0; id = s .id };
         effect = one (homeStore (s .layout) v e h);
         staging = left;

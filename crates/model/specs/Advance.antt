@@ -8,18 +8,19 @@
 use Prim.Native.Nat.{ℕ, zero, suc, _+_}
 use mathlib.Core.Bool.{Bool, true, false}
 use mathlib.Core.List.{List}
+use Rattle.octets.specs.Answer.{Answer, taken, refused}
 use Rattle.octets.specs.Choice.{pick}
+use Rattle.model.specs.declared.Done.{Done}
 use Rattle.model.specs.declared.Done.the-variants.{Idle, Stored}
+use Rattle.model.specs.declared.Says.{Says}
 use Rattle.model.specs.declared.Says.the-variants.{Nothing}
 use Rattle.model.specs.declared.State.{State}
-use Rattle.model.specs.declared.StepAnswer.{StepAnswer}
-use Rattle.model.specs.declared.StepAnswer.the-variants.{Stepped, Refused}
 use Rattle.model.specs.Store.{afterEffect}
 use Rattle.model.specs.Step.{StepResult, stepOf}
 use Rattle.model.specs.World.{stepAcknowledges}
 
 pub record AdvanceResult : Type 0 where
-  pub answer : StepAnswer
+  pub answer : Answer ℕ (Done × Says)
   pub stores : ℕ
   pub acknowledged : Bool
   pub state : State
@@ -28,13 +29,13 @@ pub record AdvanceResult : Type 0 where
 
 -- nothing was done, and nothing is said
 abbrev pub noStep : State → List ℕ → List ℕ → AdvanceResult
-noStep s v st = record { answer = Stepped Idle Nothing; stores = 0; acknowledged = false; state = s; volume = v; staging = st }
+noStep s v st = record { answer = taken (Idle, Nothing); stores = 0; acknowledged = false; state = s; volume = v; staging = st }
 
 -- a step that stored a sector names it
-abbrev pub storesIn : StepAnswer → ℕ
-storesIn (Stepped Idle says) = 0
-storesIn (Stepped (Stored at) says) = 1
-storesIn (Refused r) = 0
+abbrev pub storesIn : Answer ℕ (Done × Says) → ℕ
+storesIn (taken (Idle, says)) = 0
+storesIn (taken (Stored at, says)) = 1
+storesIn (refused r) = 0
 
 abbrev pub stepMade : AdvanceResult → StepResult → AdvanceResult
 stepMade o x =

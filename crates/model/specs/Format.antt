@@ -3,23 +3,21 @@
 -- formatRows g v      : the rules of the call, in order
 -- freshRun tag g q n  : run q with n data sectors: their tags, zeros to the end of the tag area, zero data
 -- freshVolume tag g v : the volume v as format leaves it
--- formatOf tag g v    : the call: its answer and the volume afterwards
+-- formatOf tags g v   : the call: its answer and the volume afterwards
 use Prim.Native.Nat.{ℕ, _+_, _-_, _*_, _/_, _%_}
 use mathlib.Core.Bool.{Bool, not}
 use mathlib.Core.List.{List, [], _∷_, _++_}
 use lib.ListN.{length, take, drop, replicate}
 use lib.Dec.{ltb}
+use Rattle.octets.specs.Answer.{taken, refused, refuse}
 use Rattle.octets.specs.Choice.{firstMet}
 use Rattle.octets.specs.Sectors.{sectorSize}
-use Rattle.model.specs.declared.FormatAnswer.{FormatAnswer}
-use Rattle.model.specs.declared.FormatAnswer.the-variants.{Formatted, Refused}
 use Rattle.model.specs.declared.Layout.{Layout}
-use Rattle.model.specs.declared.Refusal.the-variants.{Malformed, Parameter, Short, Superblock}
 use Rattle.model.specs.Layout.{sectionSize, runLength, tagArea, needed, layoutOk}
 use Rattle.model.specs.Superblock.{superblockOf, superblockAt, isZero}
 use Rattle.model.specs.Section.{collect}
-use Rattle.model.specs.Tag.{Tag}
-use Rattle.model.specs.State.{Verdict, passed, refused, volumeLoanOk}
+use Rattle.model.specs.Tag.{Tag, Tags}
+use Rattle.model.specs.State.{Verdict, passed, volumeLoanOk}
 
 abbrev pub zeros : ℕ → List ℕ
 zeros n = replicate n 0
@@ -50,19 +48,19 @@ freshVolume tag g v =
 
 abbrev pub formatRows : Layout → List ℕ → List (Bool × Verdict)
 formatRows g v =
-    (not (volumeLoanOk v), refused Malformed)
-    ∷ (not (layoutOk g), refused Parameter)
-    ∷ (ltb (length v) (needed g * sectorSize), refused (Short (needed g)))
-    ∷ (not (isZero (superblockAt (g .reserved) v)), refused Superblock)
+    (not (volumeLoanOk v), refuse 1 [])
+    ∷ (not (layoutOk g), refuse 2 [])
+    ∷ (ltb (length v) (needed g * sectorSize), refuse 5 (needed g ∷ []))
+    ∷ (not (isZero (superblockAt (g .reserved) v)), refuse 3 [])
     ∷ []
 
 pub record FormatResult : Type 0 where
-  pub answer : FormatAnswer
+  pub answer : Verdict
   pub volume : List ℕ
 
 abbrev pub formatBy : Tag → Layout → List ℕ → Verdict → FormatResult
-formatBy tag g v passed = record { answer = Formatted; volume = freshVolume tag g v }
-formatBy tag g v (refused r) = record { answer = Refused r; volume = v }
+formatBy tag g v (taken x) = record { answer = taken x; volume = freshVolume tag g v }
+formatBy tag g v (refused r) = record { answer = refused r; volume = v }
 
-unfoldable pub formatOf : Tag → Layout → List ℕ → FormatResult
-formatOf tag g v = formatBy tag g v (firstMet (formatRows g v) passed)
+unfoldable pub formatOf : Tags → Layout → List ℕ → FormatResult
+formatOf tags g v = formatBy (tags (g .width)) g v (firstMet (formatRows g v) passed)

@@ -1,11 +1,11 @@
 -- What holds beside demand 3, which says nothing of a volume whose opens are all refused. For the world and the ledger after every list of calls and
 -- cuts on a formatted volume. The proof is in proofs/Guarantees.
 --
--- worldOf tag g v es   : the world after the events es on the volume that format left of v
--- toldOf tag g v es    : the ledger of their transcript
+-- worldOf tags g v es  : the world after the events es on the volume that format left of v
+-- toldOf tags g v es   : the ledger of their transcript
 -- Outside g b          : byte b is one that no step changes
 -- Guarantees ..        : what holds of them
--- Guaranteed           : that it does, over any tag function; GuaranteedSha256: for document 01's own tag
+-- Guaranteed           : that it does, over any family of tag functions; GuaranteedSha256: for document 01's own tag
 -- FreshOpens           : how a volume that format left is opened
 use Prim.Native.Nat.{ℕ, _+_, _*_, _≤_, _<_}
 use mathlib.Core.Bool.{true}
@@ -14,29 +14,28 @@ use mathlib.Core.Path.{_≡_}
 use mathlib.Core.List.{List, _∷_}
 use lib.ListN.{length, getD, replicate}
 use lib.Dec.{eqb}
+use Rattle.octets.specs.Answer.{taken, isTaken}
 use Rattle.octets.specs.Sectors.{sectorSize, sectorAt}
-use Rattle.model.specs.declared.FormatAnswer.the-variants.{Formatted}
 use Rattle.model.specs.declared.Layout.{Layout}
-use Rattle.model.specs.declared.OpenAnswer.the-variants.{Opened}
 use Rattle.model.specs.declared.Phase.the-variants.{Filling}
-use Rattle.model.specs.declared.QueryAnswer.the-variants.{Holds}
 use Rattle.model.specs.declared.State.{State}
 use Rattle.model.specs.Layout.{sectionSize, sectionAt, base, dataAt, tagByte, needed}
 use Rattle.model.specs.Superblock.{superblockAt, layoutIn}
 use Rattle.model.specs.Section.{emptySection}
-use Rattle.model.specs.Tag.{Tag, tagOf}
+use Rattle.model.specs.Tag.{Tags, tagOf}
+use Rattle.model.specs.State.{passed}
 use Rattle.model.specs.Format.{formatOf}
 use Rattle.model.specs.Open.{openOf}
 use Rattle.model.specs.Query.{queryOf}
 use Rattle.model.specs.Step.{stepOf}
 use Rattle.model.specs.Ledger.{Ledger, entersNext, ledgerOf}
-use Rattle.model.specs.World.{Event, anOpen, aStep, off, on, World, volumeIn, begin, openTaken, stepTaken, stepAcknowledges, after, transcript}
+use Rattle.model.specs.World.{Event, anOpen, aStep, off, on, World, volumeIn, begin, stepAcknowledges, after, transcript}
 
-abbrev pub worldOf : Tag → Layout → List ℕ → List Event → World
-worldOf tag g v es = after tag (g .reserved) (begin (formatOf tag g v .volume)) es
+abbrev pub worldOf : Tags → Layout → List ℕ → List Event → World
+worldOf tags g v es = after tags (g .reserved) (begin (formatOf tags g v .volume)) es
 
-abbrev pub toldOf : Tag → Layout → List ℕ → List Event → Ledger
-toldOf tag g v es = ledgerOf (sectionSize (g .width)) (transcript tag (g .reserved) (begin (formatOf tag g v .volume)) es)
+abbrev pub toldOf : Tags → Layout → List ℕ → List Event → Ledger
+toldOf tags g v es = ledgerOf (sectionSize (g .width)) (transcript tags (g .reserved) (begin (formatOf tags g v .volume)) es)
 
 -- byte b of the volume is in no journal sector, in no data sector and in no tag: what format leaves there, reserved sectors, superblock, tag padding and
 -- the sectors behind the last run, no step changes
@@ -45,19 +44,19 @@ pub record Outside (g : Layout) (b : ℕ) : Type 0 where
   pub contents : (s : ℕ) → s < g .provided → (b < dataAt g s * sectorSize) ⊎ (dataAt g s * sectorSize + sectorSize ≤ b)
   pub tags : (s : ℕ) → s < g .provided → (b < tagByte g s) ⊎ (tagByte g s + g .width ≤ b)
 
-pub record Guarantees (tag : Tag) (g : Layout) (v₀ : List ℕ) (w : World) (l : Ledger) : Type 0 where
+pub record Guarantees (tags : Tags) (g : Layout) (v₀ : List ℕ) (w : World) (l : Ledger) : Type 0 where
   -- an open with staging of the right length is taken
   pub opens : (staging : List ℕ) → w .live ≡ off → length staging ≡ sectionSize (g .width) * sectorSize
-      → openTaken (openOf tag (g .reserved) (volumeIn (w .medium)) staging .answer) ≡ true
+      → isTaken (openOf tags (g .reserved) (volumeIn (w .medium)) staging .answer) ≡ true
   -- no step is refused
-  pub steps : (s : State) (staging : List ℕ) → w .live ≡ on s staging → stepTaken (stepOf s (volumeIn (w .medium)) staging .answer) ≡ true
+  pub steps : (s : State) (staging : List ℕ) → w .live ≡ on s staging → isTaken (stepOf s (volumeIn (w .medium)) staging .answer) ≡ true
   -- acknowledged is said exactly when the ledger enters a batch
   pub acknowledged : (s : State) (staging : List ℕ) → w .live ≡ on s staging
       → stepAcknowledges (stepOf s (volumeIn (w .medium)) staging .answer) ≡ entersNext l
   -- open's number is the number of steps to filling: the volume is settled after as many, and not before
   pub counts : (staging : List ℕ) (s : State) (n : ℕ) → w .live ≡ off
-      → openOf tag (g .reserved) (volumeIn (w .medium)) staging .answer ≡ Opened s n
-      → (k : ℕ) → k ≤ n → after tag (g .reserved) w (anOpen staging ∷ replicate k aStep) .settled ≡ eqb k n
+      → openOf tags (g .reserved) (volumeIn (w .medium)) staging .answer ≡ taken (s, n)
+      → (k : ℕ) → k ≤ n → after tags (g .reserved) w (anOpen staging ∷ replicate k aStep) .settled ≡ eqb k n
   -- the superblock holds the layout that was formatted, and what is live has it
   pub layout : layoutIn (g .reserved) (superblockAt (g .reserved) (volumeIn (w .medium))) ≡ g
   pub live : (s : State) (staging : List ℕ) → w .live ≡ on s staging → s .layout ≡ g
@@ -65,26 +64,26 @@ pub record Guarantees (tag : Tag) (g : Layout) (v₀ : List ℕ) (w : World) (l 
   pub untouched : (b : ℕ) → Outside g b → getD (volumeIn (w .medium)) b 0 ≡ getD v₀ b 0
   pub behind : (a : ℕ) → needed g ≤ a → sectorAt (volumeIn (w .medium)) a ≡ sectorAt v₀ a
 
-abbrev pub GuaranteedFor : Tag → Layout → List ℕ → Type 0
-GuaranteedFor tag g v =
-    formatOf tag g v .answer ≡ Formatted → (es : List Event) → Guarantees tag g (formatOf tag g v .volume) (worldOf tag g v es) (toldOf tag g v es)
+abbrev pub GuaranteedFor : Tags → Layout → List ℕ → Type 0
+GuaranteedFor tags g v =
+    formatOf tags g v .answer ≡ passed → (es : List Event) → Guarantees tags g (formatOf tags g v .volume) (worldOf tags g v es) (toldOf tags g v es)
 
 abbrev pub Guaranteed : Type 0
-Guaranteed = (tag : Tag) (g : Layout) → ((s : ℕ) (bytes : List ℕ) → length (tag s bytes) ≡ g .width) → (v : List ℕ) → GuaranteedFor tag g v
+Guaranteed = (tags : Tags) (g : Layout) → ((s : ℕ) (bytes : List ℕ) → length (tags (g .width) s bytes) ≡ g .width) → (v : List ℕ) → GuaranteedFor tags g v
 
 -- for document 01's tag nothing is left to assume
 abbrev pub GuaranteedSha256 : Type 0
-GuaranteedSha256 = (g : Layout) (v : List ℕ) → GuaranteedFor (tagOf (g .width)) g v
+GuaranteedSha256 = (g : Layout) (v : List ℕ) → GuaranteedFor tagOf g v
 
 -- ---- a volume that format left: it holds the layout that was formatted, and an open finds nothing to replay
 
-pub record OpensFresh (tag : Tag) (g : Layout) (v₀ : List ℕ) : Type 0 where
-  pub queried : queryOf (g .reserved) v₀ ≡ Holds g (sectionSize (g .width) * sectorSize)
+pub record OpensFresh (tags : Tags) (g : Layout) (v₀ : List ℕ) : Type 0 where
+  pub queried : queryOf (g .reserved) v₀ ≡ taken (g, sectionSize (g .width) * sectorSize)
   pub opened : (staging : List ℕ) → length staging ≡ sectionSize (g .width) * sectorSize
-      → openOf tag (g .reserved) v₀ staging
-      ≡ record { answer = Opened (record { layout = g; phase = Filling; count = 0; id = 1 }) 0; staging = emptySection (g .width) }
+      → openOf tags (g .reserved) v₀ staging
+      ≡ record { answer = taken (record { layout = g; phase = Filling; count = 0; id = 1 }, 0); staging = emptySection (g .width) }
 
 abbrev pub FreshOpens : Type 0
 FreshOpens =
-    (tag : Tag) (g : Layout) → ((s : ℕ) (bytes : List ℕ) → length (tag s bytes) ≡ g .width) → (v : List ℕ)
-    → formatOf tag g v .answer ≡ Formatted → OpensFresh tag g (formatOf tag g v .volume)
+    (tags : Tags) (g : Layout) → ((s : ℕ) (bytes : List ℕ) → length (tags (g .width) s bytes) ≡ g .width) → (v : List ℕ)
+    → formatOf tags g v .answer ≡ passed → OpensFresh tags g (formatOf tags g v .volume)

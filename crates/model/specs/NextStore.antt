@@ -14,35 +14,34 @@ use mathlib.Core.Bool.{true, false, not}
 use mathlib.Core.List.{List, [], _∷_}
 use mathlib.Core.Path.{_≡_}
 use lib.ListN.{length}
+use Rattle.octets.specs.Answer.{Answer, taken, refused, refuse, isTaken}
 use Rattle.octets.specs.Choice.{firstMet}
 use Rattle.octets.specs.Sectors.{sectorSize, putSector}
+use Rattle.model.specs.declared.Done.{Done}
 use Rattle.model.specs.declared.Done.the-variants.{Idle, Stored}
-use Rattle.model.specs.declared.FormatAnswer.the-variants.{Formatted}
 use Rattle.model.specs.declared.Layout.{Layout}
-use Rattle.model.specs.declared.Refusal.the-variants.{Malformed}
+use Rattle.model.specs.declared.Says.{Says}
 use Rattle.model.specs.declared.State.{State}
-use Rattle.model.specs.declared.StepAnswer.{StepAnswer}
-use Rattle.model.specs.declared.StepAnswer.the-variants.{Stepped, Refused}
 use Rattle.model.specs.Layout.{superblockSize, sectionSize, needed}
-use Rattle.model.specs.Tag.{Tag, tagOf}
+use Rattle.model.specs.Tag.{Tags, tagOf}
 use Rattle.model.specs.Store.{Store, Effect, none, one, afterEffect, contentOf}
-use Rattle.model.specs.State.{passed, refused, sectorOk}
+use Rattle.model.specs.State.{passed, sectorOk}
 use Rattle.model.specs.Format.{formatOf}
 use Rattle.model.specs.Step.{StepResult, stepRows, stepBy, stepOf}
 use Rattle.model.specs.Ledger.{Noted, stepped, ledgerOf}
-use Rattle.model.specs.World.{Event, Medium, volumeIn, Live, off, on, World, begin, unmoved, stepTaken, stepSettles, next, noted}
+use Rattle.model.specs.World.{Event, Medium, volumeIn, Live, off, on, World, begin, unmoved, stepSettles, next, noted}
 use Rattle.model.specs.Demand3.{Agrees}
 
 -- refused 1 also where the loan for the content is not a sector long
 unfoldable pub nextStoreOf : State → List ℕ → List ℕ → List ℕ → StepResult
-nextStoreOf s v st out = stepBy s v st (firstMet ((not (sectorOk out), refused Malformed) ∷ stepRows s v st) passed)
+nextStoreOf s v st out = stepBy s v st (firstMet ((not (sectorOk out), refuse 1 []) ∷ stepRows s v st) passed)
 
 -- ---- the store of a step
 
-abbrev pub storeNamed : List ℕ → StepAnswer → List ℕ → List ℕ
-storeNamed v (Stepped Idle x) c = v
-storeNamed v (Stepped (Stored at) x) c = putSector v at c
-storeNamed v (Refused r) c = v
+abbrev pub storeNamed : List ℕ → Answer ℕ (Done × Says) → List ℕ → List ℕ
+storeNamed v (taken (Idle, x)) c = v
+storeNamed v (taken (Stored at, x)) c = putSector v at c
+storeNamed v (refused r) c = v
 
 -- reserved sectors, superblock and the sectors behind the last run are never stored to, nor anything outside the lent volume
 pub record Placed (g : Layout) (v : List ℕ) (x : Store) : Type 0 where
@@ -56,10 +55,10 @@ Within g v none = Unit {0}
 Within g v (one x) = Placed g v x
 
 -- the sector that an answer names, and that of an effect, if there is one
-abbrev pub sectorNamed : StepAnswer → List ℕ
-sectorNamed (Stepped Idle x) = []
-sectorNamed (Stepped (Stored at) x) = at ∷ []
-sectorNamed (Refused r) = []
+abbrev pub sectorNamed : Answer ℕ (Done × Says) → List ℕ
+sectorNamed (taken (Idle, x)) = []
+sectorNamed (taken (Stored at, x)) = at ∷ []
+sectorNamed (refused r) = []
 
 abbrev pub sectorStored : Effect → List ℕ
 sectorStored none = []
@@ -90,15 +89,15 @@ ownerStep m (on s st) out = ownerWorld m out (nextStoreOf s (volumeIn m) st out)
 
 abbrev pub ownerTaken : Medium → Live → List ℕ → Noted
 ownerTaken m off out = stepped false
-ownerTaken m (on s st) out = stepped (stepTaken (nextStoreOf s (volumeIn m) st out .answer))
+ownerTaken m (on s st) out = stepped (isTaken (nextStoreOf s (volumeIn m) st out .answer))
 
-module _ (tag : Tag) (r : ℕ) where
+module _ (tags : Tags) (r : ℕ) where
   abbrev pub ownerNext : World → OwnerEvent → World
-  ownerNext w (plain e) = next tag r w e
+  ownerNext w (plain e) = next tags r w e
   ownerNext w (aNextStore out) = ownerStep (w .medium) (w .live) out
 
   abbrev pub ownerNoted : World → OwnerEvent → Noted
-  ownerNoted w (plain e) = noted tag r w e
+  ownerNoted w (plain e) = noted tags r w e
   ownerNoted w (aNextStore out) = ownerTaken (w .medium) (w .live) out
 
   unfoldable pub ownerAfter : World → List OwnerEvent → World
@@ -109,17 +108,17 @@ module _ (tag : Tag) (r : ℕ) where
   ownerTranscript w [] = []
   ownerTranscript w (e ∷ es) = ownerNoted w e ∷ ownerTranscript (ownerNext w e) es
 
-abbrev pub Demand3OwnerFor : Tag → Layout → List ℕ → Type 0
-Demand3OwnerFor tag g v =
-    formatOf tag g v .answer ≡ Formatted
+abbrev pub Demand3OwnerFor : Tags → Layout → List ℕ → Type 0
+Demand3OwnerFor tags g v =
+    formatOf tags g v .answer ≡ passed
     → (es : List OwnerEvent)
-    → ownerAfter tag (g .reserved) (begin (formatOf tag g v .volume)) es .settled ≡ true
-    → Agrees tag g (formatOf tag g v .volume)
-    (ownerAfter tag (g .reserved) (begin (formatOf tag g v .volume)) es)
-    (ledgerOf (sectionSize (g .width)) (ownerTranscript tag (g .reserved) (begin (formatOf tag g v .volume)) es))
+    → ownerAfter tags (g .reserved) (begin (formatOf tags g v .volume)) es .settled ≡ true
+    → Agrees tags g (formatOf tags g v .volume)
+    (ownerAfter tags (g .reserved) (begin (formatOf tags g v .volume)) es)
+    (ledgerOf (sectionSize (g .width)) (ownerTranscript tags (g .reserved) (begin (formatOf tags g v .volume)) es))
 
 abbrev pub Demand3Owner : Type 0
-Demand3Owner = (tag : Tag) (g : Layout) → ((s : ℕ) (bytes : List ℕ) → length (tag s bytes) ≡ g .width) → (v : List ℕ) → Demand3OwnerFor tag g v
+Demand3Owner = (tags : Tags) (g : Layout) → ((s : ℕ) (bytes : List ℕ) → length (tags (g .width) s bytes) ≡ g .width) → (v : List ℕ) → Demand3OwnerFor tags g v
 
 abbrev pub Demand3OwnerSha256 : Type 0
-Demand3OwnerSha256 = (g : Layout) (v : List ℕ) → Demand3OwnerFor (tagOf (g .width)) g v
+Demand3OwnerSha256 = (g : Layout) (v : List ℕ) → Demand3OwnerFor tagOf g v

@@ -1,6 +1,6 @@
 -- What is tested of loans and states: document 01, "Working a volume", its last paragraph, and "Refusal numbers", 1.
 --
--- Verdict             : what the rules of a call say: none is met, or the refusal of the first that is
+-- Verdict             : what the rules of a call say: none is met (passed), or the refusal of the first that is
 -- volumeLoanOk v      : whether a volume is whole sectors, and not over the limit
 -- stagingOk g st      : whether a staging loan is as long as a section
 -- sectorOk b          : whether a loan is as long as a sector
@@ -11,20 +11,22 @@ use mathlib.Core.Bool.{Bool, true, false, not, _&&_}
 use mathlib.Core.List.{List}
 use lib.ListN.{length}
 use lib.Dec.{leb, ltb, eqb}
+use Rattle.octets.specs.Answer.{Answer, taken}
 use Rattle.octets.specs.Sectors.{sectorSize}
 use Rattle.model.specs.declared.Layout.{Layout}
 use Rattle.model.specs.declared.Phase.{Phase}
 use Rattle.model.specs.declared.Phase.the-variants.{Filling, Committing, WritingBack, Recovering}
-use Rattle.model.specs.declared.Refusal.{Refusal}
 use Rattle.model.specs.declared.State.{State}
 use Rattle.model.specs.Layout.{mostSectors, entryCount, sectionSize, needed, layoutOk}
 use Rattle.model.specs.Journal.{replay}
 use Rattle.model.specs.Store.{storesOf}
 
 -- The rules of a call are rows of a test and a verdict, in document 01's order, read by `firstMet` of octets.
-pub data Verdict : Type 0 where
-  passed : Verdict
-  refused : Refusal → Verdict
+abbrev pub Verdict : Type 0
+Verdict = Answer ℕ (Unit {0})
+
+abbrev pub passed : Verdict
+passed = taken tt
 
 -- "2^64 − 1", which no commit may be given
 abbrev pub lastId : ℕ

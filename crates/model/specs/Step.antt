@@ -10,27 +10,25 @@ use mathlib.Core.Bool.{Bool, not, _&&_}
 use mathlib.Core.List.{List, [], _∷_}
 use lib.ListN.{getD}
 use lib.Dec.{leb, ltb, eqb}
+use Rattle.octets.specs.Answer.{Answer, taken, refused, refuse}
 use Rattle.octets.specs.Choice.{pick, firstMet}
+use Rattle.model.specs.declared.Done.{Done}
 use Rattle.model.specs.declared.Done.the-variants.{Idle, Stored}
 use Rattle.model.specs.declared.Layout.{Layout}
 use Rattle.model.specs.declared.Phase.{Phase}
 use Rattle.model.specs.declared.Phase.the-variants as phases
-use Rattle.model.specs.declared.Refusal.{Refusal}
-use Rattle.model.specs.declared.Refusal.the-variants.{Malformed, StagedRange, JournalRange}
 use Rattle.model.specs.declared.Says.{Says}
 use Rattle.model.specs.declared.Says.the-variants.{Nothing, Acknowledged, Filling}
 use Rattle.model.specs.declared.State.{State}
-use Rattle.model.specs.declared.StepAnswer.{StepAnswer}
-use Rattle.model.specs.declared.StepAnswer.the-variants.{Stepped, Refused}
 use Rattle.model.specs.Layout.{sectionSize, sectionAt}
 use Rattle.model.specs.Section.{Entry, entryOf, emptySection}
 use Rattle.model.specs.Journal.{sectionFor, sealed, Replayed, replay}
 use Rattle.model.specs.Store.{Store, Effect, none, one, homeCount, homeStore, Place, storeOf, plan, storesOf}
-use Rattle.model.specs.State.{Verdict, passed, refused, stateOk, volumeOk, stagingOk}
+use Rattle.model.specs.State.{Verdict, passed, stateOk, volumeOk, stagingOk}
 use Rattle.model.specs.Flush.{inPhase}
 
 pub record StepResult : Type 0 where
-  pub answer : StepAnswer
+  pub answer : Answer ℕ (Done × Says)
   pub state : State
   pub effect : Effect
   pub staging : List ℕ
@@ -51,17 +49,17 @@ abbrev pub stagedEntry : State → List ℕ → ℕ → Entry
 stagedEntry s st i = entryOf (s .layout .width) st i
 
 abbrev pub placeRow : Layout → Place → Bool × Verdict
-placeRow g (storeOf x h) = (leb (g .provided) (x .entry .sector), refused (JournalRange (x .section) (x .place)))
+placeRow g (storeOf x h) = (leb (g .provided) (x .entry .sector), refuse 6 (x .section ∷ x .place ∷ []))
 
 -- "6 (only the entry being written back or replayed)"
 abbrev pub rangeRows : State → List ℕ → List ℕ → Phase → List (Bool × Verdict)
 rangeRows s v st phases.Filling = []
 rangeRows s v st (phases.Committing j) = []
-rangeRows s v st (phases.WritingBack i h) = (leb (s .layout .provided) (stagedEntry s st i .sector), refused (StagedRange i)) ∷ []
+rangeRows s v st (phases.WritingBack i h) = (leb (s .layout .provided) (stagedEntry s st i .sector), refuse 6 (i ∷ [])) ∷ []
 rangeRows s v st (phases.Recovering k) = placeRow (s .layout) (placeAt (s .layout) v k) ∷ []
 
 abbrev pub stepRows : State → List ℕ → List ℕ → List (Bool × Verdict)
-stepRows s v st = (not (stateOk s && (volumeOk s v && stagingOk (s .layout) st)), refused Malformed) ∷ rangeRows s v st (s .phase)
+stepRows s v st = (not (stateOk s && (volumeOk s v && stagingOk (s .layout) st)), refuse 1 []) ∷ rangeRows s v st (s .phase)
 
 module _ (s : State) (v st : List ℕ) where
   -- ---- committing: "journal sectors 0 to M − 1 in order with the id put in (in the store; staging stays); the batch is acknowledged by the M-th";
@@ -75,13 +73,13 @@ module _ (s : State) (v st : List ℕ) where
   commitStep j =
       pick (ltb (j + 1) (sectionSize (s .layout .width)))
       (record {
-        answer = Stepped (Stored (commitStore j .at)) Nothing;
+        answer = taken (Stored (commitStore j .at), Nothing);
         state = inPhase s (phases.Committing (j + 1));
         effect = one (commitStore j);
         staging = st;
       })
       (record {
-        answer = Stepped (Stored (commitStore j .at)) Acknowledged;
+        answer = taken (Stored (commitStore j .at), Acknowledged);
         state = record { layout = s .layout; phase = phases.WritingBack 0 0; count = s .count; id = s .id + 1 };
         effect = one (commitStore j);
         staging = st;
@@ -94,13 +92,13 @@ module _ (s : State) (v st : List ℕ) where
   homeStep e h last p left =
       pick last
       (record {
-        answer = Stepped (Stored (homeStore (s .layout) v e h .at)) Filling;
+        answer = taken (Stored (homeStore (s .layout) v e h .at), Filling);
         state = record { layout = s .layout; phase = phases.Filling; count = 0; id = s .id };
         effect = one (homeStore (s .layout) v e h);
         staging = left;
       })
       (record {
-        answer = Stepped (Stored (homeStore (s .layout) v e h .at)) Nothing;
+        answer = taken (Stored (homeStore (s .layout) v e h .at), Nothing);
         state = inPhase s p;
         effect = one (homeStore (s .layout) v e h);
         staging = st;
@@ -124,14 +122,14 @@ module _ (s : State) (v st : List ℕ) where
 
   -- "Step makes exactly one sector store, or none when filling."
   abbrev pub phaseStep : Phase → StepResult
-  phaseStep phases.Filling = record { answer = Stepped Idle Filling; state = s; effect = none; staging = st }
+  phaseStep phases.Filling = record { answer = taken (Idle, Filling); state = s; effect = none; staging = st }
   phaseStep (phases.Committing j) = commitStep j
   phaseStep (phases.WritingBack i h) = writeBackStep i h
   phaseStep (phases.Recovering k) = recoverStep k
 
   abbrev pub stepBy : Verdict → StepResult
-  stepBy passed = phaseStep (s .phase)
-  stepBy (refused r) = record { answer = Refused r; state = s; effect = none; staging = st }
+  stepBy (taken x) = phaseStep (s .phase)
+  stepBy (refused r) = record { answer = refused r; state = s; effect = none; staging = st }
 
   unfoldable pub stepOf : StepResult
   stepOf = stepBy (firstMet (stepRows s v st) passed)

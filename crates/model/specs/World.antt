@@ -6,33 +6,24 @@
 --                      cut, between two calls, keeps those made"
 -- Live               : state and staging "as last returned or left"; there are none at first and after a cut
 -- World              : the medium, what is live, and whether the last event was "an open that reports no store to come" or a "step that says filling"
--- next tag r w e     : the world after the event e
--- noted tag r w e    : what the ledger is told of it
--- after tag r w es   : the world after a list of events
+-- next tags r w e    : the world after the event e
+-- noted tags r w e   : what the ledger is told of it
+-- after tags r w es  : the world after a list of events
 -- transcript ..      : what the ledger is told of them
 use Prim.Native.Nat.{ℕ}
 use mathlib.Core.Bool.{Bool, true, false}
 use mathlib.Core.List.{List, [], _∷_}
 use lib.Dec.{eqb}
-use Rattle.model.specs.declared.FlushAnswer.{FlushAnswer}
-use Rattle.model.specs.declared.FlushAnswer.the-variants as flushing
-use Rattle.model.specs.declared.OpenAnswer.{OpenAnswer}
-use Rattle.model.specs.declared.OpenAnswer.the-variants as opening
-use Rattle.model.specs.declared.ReadAnswer.{ReadAnswer}
-use Rattle.model.specs.declared.ReadAnswer.the-variants as reading
+use Rattle.octets.specs.Answer.{Answer, taken, refused, isTaken}
+use Rattle.model.specs.declared.Done.{Done}
 use Rattle.model.specs.declared.Says.{Says}
 use Rattle.model.specs.declared.Says.the-variants as saying
 use Rattle.model.specs.declared.State.{State}
-use Rattle.model.specs.declared.StepAnswer.{StepAnswer}
-use Rattle.model.specs.declared.StepAnswer.the-variants as stepping
-use Rattle.model.specs.declared.WriteAnswer.{WriteAnswer}
-use Rattle.model.specs.declared.WriteAnswer.the-variants as writing
-use Rattle.model.specs.Tag.{Tag}
+use Rattle.model.specs.Tag.{Tags}
 use Rattle.model.specs.Store.{Effect, afterEffect}
 use Rattle.model.specs.Open.{OpenResult, openOf}
 use Rattle.model.specs.Write.{WriteResult, writeOf}
-use Rattle.model.specs.declared.Flushed.{Flushed}
-use Rattle.model.specs.Flush.{flushOf}
+use Rattle.model.specs.Flush.{FlushResult, flushOf}
 use Rattle.model.specs.Step.{StepResult, stepOf}
 use Rattle.model.specs.Read.{readOf}
 use Rattle.model.specs.Ledger.{Noted}
@@ -76,33 +67,16 @@ pub record World : Type 0 where
 abbrev pub begin : List ℕ → World
 begin v = record { medium = v; live = off; settled = false }
 
--- ---- which calls were taken, and which answers settle
-
-abbrev pub openTaken : OpenAnswer → Bool
-openTaken (opening.Opened s n) = true
-openTaken (opening.Refused r) = false
+-- ---- which answers settle, and which acknowledge
 
 -- "an open that reports no store to come"
-abbrev pub openSettles : OpenAnswer → Bool
-openSettles (opening.Opened s n) = eqb n 0
-openSettles (opening.Refused r) = false
+abbrev pub openSettles : Answer ℕ (State × ℕ) → Bool
+openSettles (taken x) = eqb (x .1) 0
+openSettles (refused r) = false
 
-abbrev pub openLive : List ℕ → OpenAnswer → Live
-openLive st (opening.Opened s n) = on s st
-openLive st (opening.Refused r) = off
-
-abbrev pub writeTaken : WriteAnswer → Bool
-writeTaken writing.Taken = true
-writeTaken (writing.Refused r) = false
-
-abbrev pub flushTaken : FlushAnswer → Bool
-flushTaken flushing.Acknowledged = true
-flushTaken flushing.Begun = true
-flushTaken (flushing.Refused r) = false
-
-abbrev pub stepTaken : StepAnswer → Bool
-stepTaken (stepping.Stepped d x) = true
-stepTaken (stepping.Refused r) = false
+abbrev pub openLive : List ℕ → Answer ℕ (State × ℕ) → Live
+openLive st (taken x) = on (x .0) st
+openLive st (refused r) = off
 
 abbrev pub saysFilling : Says → Bool
 saysFilling saying.Nothing = false
@@ -114,18 +88,14 @@ saysAcknowledged saying.Nothing = false
 saysAcknowledged saying.Acknowledged = true
 saysAcknowledged saying.Filling = false
 
-abbrev pub stepAcknowledges : StepAnswer → Bool
-stepAcknowledges (stepping.Stepped d x) = saysAcknowledged x
-stepAcknowledges (stepping.Refused r) = false
+abbrev pub stepAcknowledges : Answer ℕ (Done × Says) → Bool
+stepAcknowledges (taken x) = saysAcknowledged (x .1)
+stepAcknowledges (refused r) = false
 
 -- "each step that says filling"
-abbrev pub stepSettles : StepAnswer → Bool
-stepSettles (stepping.Stepped d x) = saysFilling x
-stepSettles (stepping.Refused r) = false
-
-abbrev pub readTaken : ReadAnswer → Bool
-readTaken reading.Found = true
-readTaken (reading.Refused r) = false
+abbrev pub stepSettles : Answer ℕ (Done × Says) → Bool
+stepSettles (taken x) = saysFilling (x .1)
+stepSettles (refused r) = false
 
 -- ---- an event. "At first and after each cut, only opens (with the formatted r) and cuts can come until an open is taken; then anything but an open":
 -- a call that cannot come is not made, and is put down as refused.
@@ -141,19 +111,19 @@ openWorld m o = record { medium = m; live = openLive (o .staging) (o .answer); s
 abbrev pub writeWorld : Medium → WriteResult → World
 writeWorld m o = unmoved m (on (o .state) (o .staging))
 
-abbrev pub flushWorld : Medium → List ℕ → Flushed → World
+abbrev pub flushWorld : Medium → List ℕ → FlushResult → World
 flushWorld m st o = unmoved m (on (o .state) st)
 
 abbrev pub stepWorld : Medium → StepResult → World
 stepWorld m o = record { medium = mediumAfter m (o .effect); live = on (o .state) (o .staging); settled = stepSettles (o .answer) }
 
-module _ (tag : Tag) (r : ℕ) where
+module _ (tags : Tags) (r : ℕ) where
   abbrev pub play : Medium → Live → Event → World
   play m x aCut = unmoved (mediumCut m) off
-  play m off (anOpen st) = openWorld m (openOf tag r (volumeIn m) st)
+  play m off (anOpen st) = openWorld m (openOf tags r (volumeIn m) st)
   play m (on s st) (anOpen st′) = unmoved m (on s st)
   play m off (aWrite n b) = unmoved m off
-  play m (on s st) (aWrite n b) = writeWorld m (writeOf tag s st n b)
+  play m (on s st) (aWrite n b) = writeWorld m (writeOf tags s st n b)
   play m off aFlush = unmoved m off
   play m (on s st) aFlush = flushWorld m st (flushOf s)
   play m off aStep = unmoved m off
@@ -162,16 +132,16 @@ module _ (tag : Tag) (r : ℕ) where
 
   abbrev pub tell : Medium → Live → Event → Noted
   tell m x aCut = ledger.cut
-  tell m off (anOpen st) = ledger.opened (openTaken (openOf tag r (volumeIn m) st .answer))
+  tell m off (anOpen st) = ledger.opened (isTaken (openOf tags r (volumeIn m) st .answer))
   tell m (on s st) (anOpen st′) = ledger.opened false
   tell m off (aWrite n b) = ledger.wrote false n b
-  tell m (on s st) (aWrite n b) = ledger.wrote (writeTaken (writeOf tag s st n b .answer)) n b
+  tell m (on s st) (aWrite n b) = ledger.wrote (isTaken (writeOf tags s st n b .answer)) n b
   tell m off aFlush = ledger.flushed false
-  tell m (on s st) aFlush = ledger.flushed (flushTaken (flushOf s .answer))
+  tell m (on s st) aFlush = ledger.flushed (isTaken (flushOf s .answer))
   tell m off aStep = ledger.stepped false
-  tell m (on s st) aStep = ledger.stepped (stepTaken (stepOf s (volumeIn m) st .answer))
+  tell m (on s st) aStep = ledger.stepped (isTaken (stepOf s (volumeIn m) st .answer))
   tell m off (aRead n loan) = ledger.read false
-  tell m (on s st) (aRead n loan) = ledger.read (readTaken (readOf tag s (volumeIn m) st n loan .answer))
+  tell m (on s st) (aRead n loan) = ledger.read (isTaken (readOf tags s (volumeIn m) st n loan .answer))
 
   abbrev pub next : World → Event → World
   next w e = play (w .medium) (w .live) e

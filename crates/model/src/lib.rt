@@ -3,7 +3,7 @@
 // What each call means, over any tag function, is defined in specs/, one file to a call; the ledger and demand 3 stand there too. The code that meets
 // these definitions is in the crates above.
 ghost use mathlib.Core.Path.{_≡_};
-ghost use Rattle.model.specs.Refusal.{numberOf};
+ghost use Rattle.model.specs.Refusal.{refusalOf, stepAnswer};
 ghost use Rattle.model.specs.World.{stepAcknowledges, stepSettles};
 
 // Where everything lies on a volume. Any numbers may be handed in; `layoutOk` of specs/Layout.antt says which are in range.
@@ -42,7 +42,7 @@ pub struct State {
     pub id: u64,
 }
 
-// Document 01's refusals, with what is also returned. `numberOf` and `valuesOf` of specs/Refusal.antt give its number and values.
+// Document 01's refusals, with what is also returned. `refusalOf` of specs/Refusal.antt gives number and values.
 pub enum Refusal {
     // 1: a loan has a wrong length, or a state is not sound
     Malformed,
@@ -73,7 +73,7 @@ pub enum Refusal {
 
 // Document 01's number of a refusal.
 pub fn number(r: Refusal) -> u32
-    ensures { λ n. ⌜ n ≡ numberOf r ⌝ }
+    ensures { λ n. ⌜ n ≡ refusalOf r .number ⌝ }
 {
     match r {
         Refusal::Malformed => 1,
@@ -140,7 +140,7 @@ pub enum StepAnswer {
 
 // Whether a step acknowledged the batch.
 pub fn acknowledges(a: StepAnswer) -> bool
-    ensures { λ r. ⌜ r ≡ stepAcknowledges a ⌝ }
+    ensures { λ r. ⌜ r ≡ stepAcknowledges (stepAnswer a) ⌝ }
 {
     match a {
         StepAnswer::Stepped(_, says) => match says {
@@ -154,7 +154,7 @@ pub fn acknowledges(a: StepAnswer) -> bool
 
 // Whether a step said that the volume is filling.
 pub fn says_filling(a: StepAnswer) -> bool
-    ensures { λ r. ⌜ r ≡ stepSettles a ⌝ }
+    ensures { λ r. ⌜ r ≡ stepSettles (stepAnswer a) ⌝ }
 {
     match a {
         StepAnswer::Stepped(_, says) => match says {

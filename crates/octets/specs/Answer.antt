@@ -3,7 +3,8 @@
 --
 -- Refusal Value  : a number of document 01's table, and what is also returned, as values of that type
 -- Answer Value A : what a call answers: it is taken, and gives something of type A, or it is refused
--- refuse n xs    : refused with the number n, and xs is also returned
+-- refusal n xs   : the refusal with the number n, which also returns xs
+-- refuse n xs    : the answer of a call that is so refused
 -- isTaken a      : whether the call was taken
 -- numberIn a     : the number of the answer: 0 where the call was taken
 use Prim.Native.Nat.{ℕ}
@@ -18,8 +19,11 @@ pub data Answer (Value A : Type 0) : Type 0 where
   taken : A → Answer Value A
   refused : Refusal Value → Answer Value A
 
+abbrev pub refusal : {Value : Type 0} → ℕ → List Value → Refusal Value
+refusal n xs = record { number = n; values = xs }
+
 abbrev pub refuse : {Value A : Type 0} → ℕ → List Value → Answer Value A
-refuse n xs = refused (record { number = n; values = xs })
+refuse n xs = refused (refusal n xs)
 
 abbrev pub isTaken : {Value A : Type 0} → Answer Value A → Bool
 isTaken (taken x) = true
