@@ -1,7 +1,7 @@
 -- Format: chunks of one length that are stored one after the other; a run; the whole volume.
 use Prim.Native.Nat.{ℕ, suc, _+_, _-_, _*_, _/_, _%_, _^_, _≤_, _<_}
 use mathlib.Core.Bool.{true, false}
-use mathlib.Core.List.{List, [], _++_, append-assoc}
+use mathlib.Core.List.{List, [], _∷_, _++_, append-assoc}
 use mathlib.Core.Path.{_≡_, sym, ap, _∙_}
 use native.Mathlib.Nat.{mul-le-mul-right, mul-le-mul-left, mul-assoc, suc-mul, mod-lt, div-le-self}
 use native.Mathlib.Numerals.{add-one}
@@ -9,6 +9,7 @@ use native.Mathlib.Omega.{arith}
 use lib.ListN.{length, take, drop, replicate, length-append, length-replicate, take-append-drop}
 use lib.Seq.{length-take-le, drop-drop}
 use borrow.Author.Tests.{lt-ltb, le-ltb}
+use Rattle.octets.specs.Answer.{refuse}
 use Rattle.octets.specs.Numbers.{le}
 use Rattle.octets.specs.Parts.{patch}
 use Rattle.octets.specs.Sectors.{sectorSize}
@@ -18,13 +19,11 @@ use Rattle.digest.specs.Sha256.Promise.{length-sha256}
 use Rattle.model.specs.declared.Layout.{Layout}
 use Rattle.model.specs.Layout.{sectionSize, sectionAt, base, runLength, tagArea, needed, layoutOk}
 use Rattle.model.specs.Superblock.{superblockOf, superblockAt, isZero}
-use Rattle.model.specs.State.{volumeLoanOk}
-use Rattle.model.specs.declared.FormatAnswer.the-variants.{Formatted, Refused}
-use Rattle.model.specs.declared.Refusal.the-variants.{Malformed, Parameter, Short, Superblock}
+use Rattle.model.specs.State.{passed, volumeLoanOk}
 use Rattle.model.proofs.Addresses.{Ranged, ranged, base-room}
 use Rattle.model.proofs.Formats.{super-length}
 use Rattle.model.specs.Section.{collect}
-use Rattle.model.specs.Tag.{Tag, tagOf}
+use Rattle.model.specs.Tag.{Tags, tagOf}
 use Rattle.model.specs.Format.{zeros, freshTags, freshRun, lastRun, lastLength, freshVolume, formatOf}
 use Rattle.model.proofs.Sections.{length-collect}
 use Rattle.layout.proofs.Sizes.{width-high, provided-high, run-low, run-high}
@@ -193,26 +192,26 @@ module _ (g : Layout) (ok : layoutOk g ≡ true) (v : List ℕ) (room : needed g
 
 -- ---- the call, a return at a time
 
-module _ (tag : Tag) (g : Layout) (v : List ℕ) where
-  pub wrong-loan : volumeLoanOk v ≡ false → record { answer = Refused Malformed; volume = v } ≡ formatOf tag g v
+module _ (tags : Tags) (g : Layout) (v : List ℕ) where
+  pub wrong-loan : volumeLoanOk v ≡ false → record { answer = refuse 1 []; volume = v } ≡ formatOf tags g v
   unfolding formatOf
   wrong-loan a = rw a
 
   module _ (a : volumeLoanOk v ≡ true) where
-    pub wrong-layout : layoutOk g ≡ false → record { answer = Refused Parameter; volume = v } ≡ formatOf tag g v
+    pub wrong-layout : layoutOk g ≡ false → record { answer = refuse 2 []; volume = v } ≡ formatOf tags g v
     unfolding formatOf
     wrong-layout b = rw (a, b)
 
     module _ (b : layoutOk g ≡ true) where
-      pub too-short : (n : ℕ) → n ≡ needed g → length v < n * 512 → record { answer = Refused (Short n); volume = v } ≡ formatOf tag g v
+      pub too-short : (n : ℕ) → n ≡ needed g → length v < n * 512 → record { answer = refuse 5 (n ∷ []); volume = v } ≡ formatOf tags g v
       unfolding formatOf
       too-short n e l = rw (a, b, lt-ltb (length v) (needed g * 512) (rw e at l), e)
 
       module _ (c : needed g * 512 ≤ length v) where
-        pub not-zero : isZero (superblockAt (g .reserved) v) ≡ false → record { answer = Refused Superblock; volume = v } ≡ formatOf tag g v
+        pub not-zero : isZero (superblockAt (g .reserved) v) ≡ false → record { answer = refuse 3 []; volume = v } ≡ formatOf tags g v
         unfolding formatOf
         not-zero d = rw (a, b, le-ltb (length v) (needed g * 512) c, d)
 
-        pub formatted : (r : List ℕ) → isZero (superblockAt (g .reserved) v) ≡ true → r ≡ freshVolume tag g v → record { answer = Formatted; volume = r } ≡ formatOf tag g v
+        pub formatted : (r : List ℕ) → isZero (superblockAt (g .reserved) v) ≡ true → r ≡ freshVolume (tags (g .width)) g v → record { answer = passed; volume = r } ≡ formatOf tags g v
         unfolding formatOf
         formatted r d e = rw (a, b, le-ltb (length v) (needed g * 512) c, d, e)

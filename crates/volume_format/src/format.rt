@@ -16,6 +16,7 @@ ghost use Rattle.model.specs.Layout.{sectionSize, base, runLength, tagArea, nee
 ghost use Rattle.model.specs.Superblock.{superblockOf};
 ghost use Rattle.model.specs.Section.{collect};
 ghost use Rattle.model.specs.Tag.{tagOf};
+ghost use Rattle.model.specs.Refusal.{formatAnswer};
 ghost use Rattle.model.specs.Format.{zeros, freshRun, lastRun, lastLength, formatOf};
 
 // Stores the tags of the n logical sectors from first on, all zero, from byte at on.
@@ -91,7 +92,7 @@ fn put_tail(v: &mut [u8], g: Layout)
 
 // Makes the journal, tag padding and data zero, each tag fit, and writes the superblock. Refused unless the superblock is zero.
 pub fn format(v: &mut [u8], g: Layout) -> FormatAnswer
-    ensures { λ r. ⌜ record { answer = r; volume = now (v .exit) } ≡ formatOf (tagOf (g .width)) g (now (v .entry)) ⌝ }
+    ensures { λ r. ⌜ record { answer = formatAnswer r; volume = now (v .exit) } ≡ formatOf tagOf g (now (v .entry)) ⌝ }
 {
     let loan_ok = layout::volume_loan_ok(v);
     let in_range = layout::layout_ok(g);

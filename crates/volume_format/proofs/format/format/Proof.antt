@@ -9,19 +9,19 @@ use Rattle.volume_format.proofs.format.format.Statement.{statement}
 use Rattle.volume_format.proofs.format.format.Tie as tie
 
 returns : tie.Need-returns
-returns c = wrong-loan (tagOf (c .before .before .before .before .before .args .g .width)) (c .before .before .before .before .before .args .g) (c .before .before .before .before .before .args .v .now) (sym (c .before .before .volume-loan-ok .ensures) ∙ not-true _ (c .if1 .taken))
+returns c = wrong-loan tagOf (c .before .before .before .before .before .args .g) (c .before .before .before .before .before .args .v .now) (sym (c .before .before .volume-loan-ok .ensures) ∙ not-true _ (c .if1 .taken))
 
 returns-2 : tie.Need-returns-2
-returns-2 c = wrong-layout (tagOf (c .before .before .before .before .before .before .args .g .width)) (c .before .before .before .before .before .before .args .g) (c .before .before .before .before .before .before .args .v .now) (sym (c .before .before .before .volume-loan-ok .ensures) ∙ not-false _ (c .before .if1 .left)) (sym (c .before .before .layout-ok .ensures) ∙ not-true _ (c .if2 .taken))
+returns-2 c = wrong-layout tagOf (c .before .before .before .before .before .before .args .g) (c .before .before .before .before .before .before .args .v .now) (sym (c .before .before .before .volume-loan-ok .ensures) ∙ not-false _ (c .before .if1 .left)) (sym (c .before .before .layout-ok .ensures) ∙ not-true _ (c .if2 .taken))
 
 needed-requires : tie.Need-needed-requires
 needed-requires c κs = sym (c .before .before .layout-ok .ensures) ∙ not-false _ (c .if2 .left)
 
 returns-3 : tie.Need-returns-3
-returns-3 c = too-short (tagOf (c .before .before .before .before .before .before .before .before .args .g .width)) (c .before .before .before .before .before .before .before .before .args .g) (c .before .before .before .before .before .before .before .before .args .v .now) (sym (c .before .before .before .before .before .volume-loan-ok .ensures) ∙ not-false _ (c .before .before .before .if1 .left)) (sym (c .before .before .before .before .layout-ok .ensures) ∙ not-false _ (c .before .before .if2 .left)) (c .before .needed .result) (c .before .needed .ensures .0) (c .if3 .taken)
+returns-3 c = too-short tagOf (c .before .before .before .before .before .before .before .before .args .g) (c .before .before .before .before .before .before .before .before .args .v .now) (sym (c .before .before .before .before .before .volume-loan-ok .ensures) ∙ not-false _ (c .before .before .before .if1 .left)) (sym (c .before .before .before .before .layout-ok .ensures) ∙ not-false _ (c .before .before .if2 .left)) (c .before .needed .result) (c .before .needed .ensures .0) (c .if3 .taken)
 
 returns-4 : tie.Need-returns-4
-returns-4 c = not-zero (tagOf (c .before .before .before .before .before .before .before .before .before .before .before .before .args .g .width)) (c .before .before .before .before .before .before .before .before .before .before .before .before .args .g) (c .before .before .before .before .before .before .before .before .before .before .before .before .args .v .now) (sym (c .before .before .before .before .before .before .before .before .before .volume-loan-ok .ensures) ∙ not-false _ (c .before .before .before .before .before .before .before .if1 .left)) (sym (c .before .before .before .before .before .before .before .before .layout-ok .ensures) ∙ not-false _ (c .before .before .before .before .before .before .if2 .left)) (omega (arith, c .before .before .before .before .before .needed .ensures .0)) (sym (c .before .is-zero .ensures ∙ ap isZero (c .before .before .superblock-at .ensures .0)) ∙ not-true _ (c .if4 .taken))
+returns-4 c = not-zero tagOf (c .before .before .before .before .before .before .before .before .before .before .before .before .args .g) (c .before .before .before .before .before .before .before .before .before .before .before .before .args .v .now) (sym (c .before .before .before .before .before .before .before .before .before .volume-loan-ok .ensures) ∙ not-false _ (c .before .before .before .before .before .before .before .if1 .left)) (sym (c .before .before .before .before .before .before .before .before .layout-ok .ensures) ∙ not-false _ (c .before .before .before .before .before .before .if2 .left)) (omega (arith, c .before .before .before .before .before .needed .ensures .0)) (sym (c .before .is-zero .ensures ∙ ap isZero (c .before .before .superblock-at .ensures .0)) ∙ not-true _ (c .if4 .taken))
 
 put-head-requires : tie.Need-put-head-requires
 put-head-requires c κs = (sym (c .before .before .before .before .before .before .before .before .before .layout-ok .ensures) ∙ not-false _ (c .before .before .before .before .before .before .before .if2 .left), omega (arith, c .before .before .before .before .before .before .needed .ensures .0))
@@ -31,7 +31,7 @@ put-tail-requires c κs = (sym (c .before .before .before .before .before .befor
 
 returns-5 : tie.Need-returns-5
 returns-5 c =
-    formatted (tagOf (c .before .before .before .before .before .before .before .before .before .before .before .before .before .before .before .before .before .before .before .before .args .g .width)) (c .before .before .before .before .before .before .before .before .before .before .before .before .before .before .before .before .before .before .before .before .args .g) (c .before .before .before .before .before .before .before .before .before .before .before .before .before .before .before .before .before .before .before .before .args .v .now) (sym (c .before .before .before .before .before .before .before .before .before .before .before .before .before .before .before .before .before .volume-loan-ok .ensures) ∙ not-false _ (c .before .before .before .before .before .before .before .before .before .before .before .before .before .before .before .if1 .left)) (sym (c .before .before .before .before .before .before .before .before .before .before .before .before .before .before .before .before .layout-ok .ensures) ∙ not-false _ (c .before .before .before .before .before .before .before .before .before .before .before .before .before .before .if2 .left)) (omega (arith, c .before .before .before .before .before .before .before .before .before .before .before .before .before .needed .ensures .0)) (c .before .before .put-tail .last .0) (sym (c .before .before .before .before .before .before .before .before .before .is-zero .ensures ∙ ap isZero (c .before .before .before .before .before .before .before .before .before .before .superblock-at .ensures .0)) ∙ not-false _ (c .before .before .before .before .before .before .before .before .if4 .left))
+    formatted tagOf (c .before .before .before .before .before .before .before .before .before .before .before .before .before .before .before .before .before .before .before .before .args .g) (c .before .before .before .before .before .before .before .before .before .before .before .before .before .before .before .before .before .before .before .before .args .v .now) (sym (c .before .before .before .before .before .before .before .before .before .before .before .before .before .before .before .before .before .volume-loan-ok .ensures) ∙ not-false _ (c .before .before .before .before .before .before .before .before .before .before .before .before .before .before .before .if1 .left)) (sym (c .before .before .before .before .before .before .before .before .before .before .before .before .before .before .before .before .layout-ok .ensures) ∙ not-false _ (c .before .before .before .before .before .before .before .before .before .before .before .before .before .before .if2 .left)) (omega (arith, c .before .before .before .before .before .before .before .before .before .before .before .before .before .needed .ensures .0)) (c .before .before .put-tail .last .0) (sym (c .before .before .before .before .before .before .before .before .before .is-zero .ensures ∙ ap isZero (c .before .before .before .before .before .before .before .before .before .before .superblock-at .ensures .0)) ∙ not-false _ (c .before .before .before .before .before .before .before .before .if4 .left))
     (all-stored (c .before .before .before .before .before .before .before .before .before .before .before .before .before .before .before .before .before .before .before .before .args .g) (sym (c .before .before .before .before .before .before .before .before .before .before .before .before .before .before .before .before .layout-ok .ensures) ∙ not-false _ (c .before .before .before .before .before .before .before .before .before .before .before .before .before .before .if2 .left)) (c .before .before .before .before .before .before .before .before .before .before .before .before .before .before .before .before .before .before .before .before .args .v .now) (omega (arith, c .before .before .before .before .before .before .before .before .before .before .before .before .before .needed .ensures .0)) (c .before .before .before .before .before .before .put-head .last .0) (c .before .before .put-tail .last .0) (c .before .before .before .before .before .before .put-head .ensures) (c .before .before .put-tail .ensures))
 
 pub format-spec : {M : Type 1} → statement M
