@@ -12,6 +12,7 @@ use lib.Dec.{eqb}
 use borrow.Author.Tests.{eqb-true, eq-eqb, ne-eqb, lt-ltb, leb-false}
 use Rattle.octets.specs.Answer.{Refusal, taken, refused, isTaken}
 use Rattle.octets.specs.Choice.{pick, firstMet, Unmet}
+use Rattle.octets.proofs.Answers.{refused-not-taken}
 use Rattle.octets.proofs.Choice.{unmet}
 use Rattle.model.specs.Layout.{entryCount, sectionSize}
 use Rattle.model.specs.Section.{Entry, entryOf, putEntry}
@@ -35,9 +36,6 @@ not-not true e = refl
 not-not false e = sym e
 
 -- ---- verdicts
-
-pub refused-not : (r : Refusal ℕ) → refused r ≢ passed
-refused-not r e = absurd (let z : _≡_ {A = ℕ} 0 1 = cc in omega arith)
 
 pub data Seen (x : Verdict) : Type 0 where
   isPassed : x ≡ passed → Seen x
@@ -86,7 +84,7 @@ module _ (tags : Tags) (g : Layout) (v₀ : List ℕ) (X : Setting (tags (g .wid
   write-refused v l s st n b A r e = rw e (record { lives = A; fills = λ q. never q })
 
   write-unmet : (s : State) (st : List ℕ) (n : ℕ) (b : List ℕ) → writeVerdict s st n b ≡ passed → Unmet (writeRows s st n b)
-  write-unmet s st n b e = unmet (writeRows s st n b) passed (refused-not _, (refused-not _, (refused-not _, (refused-not _, tt)))) e
+  write-unmet s st n b e = unmet (writeRows s st n b) passed (refused-not-taken _ tt, (refused-not-taken _ tt, (refused-not-taken _ tt, (refused-not-taken _ tt, tt)))) e
 
   record Taken (cnt : ℕ) (n : ℕ) (b : List ℕ) : Type 0 where
     whole : length b ≡ 512
@@ -180,7 +178,7 @@ module _ (tags : Tags) (g : Layout) (v₀ : List ℕ) (X : Setting (tags (g .wid
   flush-refused v l s st A r e = rw e (record { lives = A; fills = λ q. never q })
 
   flush-unmet : (s : State) → flushVerdict s ≡ passed → Unmet (flushRows s)
-  flush-unmet s e = unmet (flushRows s) passed (refused-not _, (refused-not _, (refused-not _, tt))) e
+  flush-unmet s e = unmet (flushRows s) passed (refused-not-taken _ tt, (refused-not-taken _ tt, (refused-not-taken _ tt, tt))) e
 
   -- the id may be given
   flush-id : (cnt m : ℕ) → 0 < cnt → flushVerdict (stateAt g cnt m Filling) ≡ passed → m ≢ lastId

@@ -10,7 +10,6 @@ use lib.Pow.{pow-pos}
 use lib.ListN.{length, take, drop, replicate, length-append, length-drop, length-replicate}
 use lib.Seq.{take-at, length-take-le, drop-append-add}
 use borrow.Author.Tests.{ltb-false}
-use Rattle.octets.specs.Answer.{refused}
 use Rattle.octets.specs.Numbers.{le}
 use Rattle.octets.specs.Parts.{part}
 use Rattle.octets.specs.Sectors.{sectorAt}
@@ -22,9 +21,10 @@ use Rattle.model.proofs.Sections.{length-collect, part-collect}
 use Rattle.model.specs.Tag.{Tag, Tags, tagAt}
 use Rattle.model.specs.State.{volumeLoanOk, Verdict, passed}
 use Rattle.octets.specs.Choice.{firstMet, Unmet}
+use Rattle.octets.proofs.Answers.{refused-not-taken}
 use Rattle.octets.proofs.Choice.{unmet}
 use Rattle.model.specs.Format.{zeros, freshTags, freshRun, lastRun, lastLength, freshVolume, formatRows, formatBy, formatOf}
-use Rattle.model.proofs.Batches.{refused-not, Seen, isPassed, isRefused, seen, not-not}
+use Rattle.model.proofs.Batches.{Seen, isPassed, isRefused, seen, not-not}
 use Rattle.model.proofs.Addresses.{Ranged, ranged, tag-in-area, base-room}
 use Rattle.model.specs.declared.Layout.{Layout}
 
@@ -252,7 +252,7 @@ module _ (tags : Tags) (g : Layout) (v : List ℕ) where
   verdict = firstMet (formatRows g v) passed
 
   format-unmet : verdict ≡ passed → Unmet (formatRows g v)
-  format-unmet e = unmet (formatRows g v) passed (refused-not _, (refused-not _, (refused-not _, (refused-not _, tt)))) e
+  format-unmet e = unmet (formatRows g v) passed (refused-not-taken _ tt, (refused-not-taken _ tt, (refused-not-taken _ tt, (refused-not-taken _ tt, tt)))) e
 
   format-passed : formatOf tags g v .answer ≡ passed → verdict ≡ passed
   unfolding formatOf
@@ -261,8 +261,7 @@ module _ (tags : Tags) (g : Layout) (v : List ℕ) where
       go : Seen verdict → verdict ≡ passed
       go (isPassed p) = p
       go (isRefused r p) =
-          let z : refused r ≡ passed = sym (ap (λ (x : Verdict). formatBy (tags (g .width)) g v x .answer) p) ∙ e in
-          absurd (let y : _≡_ {A = ℕ} 0 1 = cc in omega arith)
+          absurd (refused-not-taken r tt (sym (ap (λ (x : Verdict). formatBy (tags (g .width)) g v x .answer) p) ∙ e))
 
   passed-layout : verdict ≡ passed → layoutOk g ≡ true
   passed-layout p = not-not (layoutOk g) (format-unmet p .1 .0)

@@ -9,7 +9,8 @@ use native.Mathlib.Decide.{decLt, ℕ-discrete}
 use lib.ListN.{length, replicate}
 use lib.Dec.{eqb}
 use borrow.Author.Tests.{eq-eqb, ne-eqb, lt-ltb, le-ltb}
-use Rattle.octets.specs.Answer.{Answer, taken, refused, refuse, isTaken}
+use Rattle.octets.specs.Answer.{taken, refusal, refuse, isTaken}
+use Rattle.octets.proofs.Answers.{taken-same, refused-not-taken}
 use Rattle.model.specs.declared.Layout.{Layout}
 use Rattle.model.specs.declared.Phase.{Phase}
 use Rattle.model.specs.declared.Phase.the-variants.{Committing, WritingBack, Recovering}
@@ -173,21 +174,15 @@ module _ (tags : Tags) (g : Layout) (v₀ : List ℕ) (X : Setting (tags (g .wid
       → (openOf tags r v st ≡ openBy g v st passed) × (n ≡ storesOf g (replay g v))
   taken-runs v l (stopped D b d) st s n e = go (which (stagingOk g st))
     where
-      count : Answer ℕ (State × ℕ) → ℕ
-      count (taken x) = x .1
-      count (refused y) = 0
-
       go : Which (stagingOk g st) → (openOf tags r v st ≡ openBy g v st passed) × (n ≡ storesOf g (replay g v))
       go (isTrue t) =
           let o : openOf tags r v st ≡ openBy g v st passed =
           open-runs tags g v₀ X v l D st t in
-          let a : _≡_ {A = Answer ℕ (State × ℕ)} (taken (s, n)) (taken (openedState g v, storesOf g (replay g v))) = sym e ∙ ap (λ (x : OpenResult). x .answer) o in
-          (o, ap count a)
+          (o, ap (λ (x : State × ℕ). x .1) (taken-same (s, n) (openedState g v, storesOf g (replay g v)) (sym e ∙ ap (λ (x : OpenResult). x .answer) o)))
       go (isFalse f) =
           let o : openOf tags r v st ≡ record { answer = refuse 1 []; staging = st } =
           open-refused tags g v₀ X v l D st f in
-          let a : _≡_ {A = Answer ℕ (State × ℕ)} (taken (s, n)) (refuse 1 []) = sym e ∙ ap (λ (x : OpenResult). x .answer) o in
-          absurd (let z : _≡_ {A = ℕ} 0 1 = cc in omega arith)
+          absurd (refused-not-taken (refusal 1 []) (s, n) (sym (ap (λ (x : OpenResult). x .answer) o) ∙ e))
 
   -- ---- what no step changes
 

@@ -3,4 +3,5 @@ pub mod Parts
 pub mod Slices
 pub mod Sectors
 pub mod Choice
+pub mod Answers
 pub mod Turns

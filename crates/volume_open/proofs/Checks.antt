@@ -11,34 +11,26 @@ use lib.Dec.{leb}
 use lib.ListN.{length, take}
 use lib.Seq.{take-all}
 use borrow.Author.Tests.{eq-eqb, ne-eqb, le-leb, lt-leb}
+use Rattle.octets.specs.Answer.{taken, refused, refuse}
+use Rattle.octets.specs.Answer as octets
 use Rattle.octets.specs.Choice.{pick}
 use Rattle.octets.specs.Numbers.{le}
 use Rattle.octets.specs.Parts.{part, same}
 use Rattle.digest.specs.Sha256.{sha256}
 use Rattle.model.specs.declared.Layout.{Layout}
 use Rattle.model.specs.declared.Refusal.{Refusal}
-use Rattle.model.specs.declared.Refusal.the-variants.{JournalRange, JournalTagMismatch}
 use Rattle.model.specs.Section.{Entry, unused, collect}
 use Rattle.model.specs.Journal.{sectionOf, dueIds, Found, ordered, Replayed, usedEntry, usedOf, replayIn}
 use Rattle.model.specs.Layout.{layoutOk}
 use Rattle.model.specs.Tag.{Tag, tagOf}
-use Rattle.model.specs.State.{Verdict, passed, refused}
+use Rattle.model.specs.Refusal.{refusalOf}
+use Rattle.model.specs.State.{Verdict, passed}
 use Rattle.model.specs.Open.{entriesVerdict}
 use Rattle.journal.specs.Replay.{laterIds, firstOf, orderFrom}
 use Rattle.journal.proofs.Walks.{next-of, entries-from, none-from}
-use Rattle.volume_open.specs.Results.{checkOf}
+use Rattle.volume_open.specs.Results.{checked}
 use Rattle.volume_open.specs.declared.open.Check.{Check}
 use Rattle.volume_open.specs.declared.open.Check.the-variants.{Passed, Refused}
-
--- ---- what is handed back tells the verdict
-
-pub check-passed : (w : Verdict) → checkOf w ≡ Passed → w ≡ passed
-check-passed passed e = refl
-check-passed (refused x) e = absurd (let z : _≡_ {A = ℕ} 0 1 = cc in omega arith)
-
-pub check-refused : (w : Verdict) (x : Refusal) → checkOf w ≡ Refused x → w ≡ refused x
-check-refused passed x e = absurd (let z : _≡_ {A = ℕ} 0 1 = cc in omega arith)
-check-refused (refused y) x e = cc
 
 -- the tag test: the entry's tag, against the first bytes of the digest
 pub entry-fits-is : (t : ℕ) (e : Entry) (n : ℕ) (b d s : List ℕ) (r : Bool) → n ≡ e .sector → b ≡ e .bytes → s ≡ e .tag → length s ≡ t
@@ -54,24 +46,24 @@ module _ (tag : Tag) (g : Layout) where
   -- ---- one entry
 
   module _ (k i : ℕ) (e : Entry) where
-    pub entry-unused : e .sector ≡ unused → Passed ≡ checkOf (verdictOf (usedEntry k i e))
+    pub entry-unused : e .sector ≡ unused → passed ≡ verdictOf (usedEntry k i e)
     entry-unused q = rw (eq-eqb (e .sector) unused q)
 
     module _ (used : e .sector ≢ unused) where
-      pub entry-out-of-range : g .provided ≤ e .sector → Refused (JournalRange k i) ≡ checkOf (verdictOf (usedEntry k i e))
+      pub entry-out-of-range : g .provided ≤ e .sector → refuse 6 (k ∷ i ∷ []) ≡ verdictOf (usedEntry k i e)
       entry-out-of-range l = rw (ne-eqb (e .sector) unused used, le-leb (g .provided) (e .sector) l)
 
       module _ (low : e .sector < g .provided) where
-        pub entry-mismatch : same (e .tag) (tag (e .sector) (e .bytes)) ≡ false → Refused (JournalTagMismatch k i) ≡ checkOf (verdictOf (usedEntry k i e))
+        pub entry-mismatch : same (e .tag) (tag (e .sector) (e .bytes)) ≡ false → refuse 7 (k ∷ i ∷ []) ≡ verdictOf (usedEntry k i e)
         entry-mismatch q = rw (ne-eqb (e .sector) unused used, lt-leb (g .provided) (e .sector) low, q)
 
-        pub entry-fits : same (e .tag) (tag (e .sector) (e .bytes)) ≡ true → Passed ≡ checkOf (verdictOf (usedEntry k i e))
+        pub entry-fits : same (e .tag) (tag (e .sector) (e .bytes)) ≡ true → passed ≡ verdictOf (usedEntry k i e)
         entry-fits q = rw (ne-eqb (e .sector) unused used, lt-leb (g .provided) (e .sector) low, q)
 
   -- ---- entries behind others
 
   abbrev after : Verdict → Verdict → Verdict
-  after passed w = w
+  after (taken y) w = w
   after (refused x) w = refused x
 
   verdict-append : (a b : List Replayed) → verdictOf (a ++ b) ≡ after (verdictOf a) (verdictOf b)
@@ -80,10 +72,10 @@ module _ (tag : Tag) (g : Layout) where
       go (leb (g .provided) (x .entry .sector)) (not (same (x .entry .tag) (tag (x .entry .sector) (x .entry .bytes)))) (verdict-append a b)
     where
       range : Verdict
-      range = refused (JournalRange (x .section) (x .place))
+      range = refuse 6 (x .section ∷ x .place ∷ [])
 
       mismatch : Verdict
-      mismatch = refused (JournalTagMismatch (x .section) (x .place))
+      mismatch = refuse 7 (x .section ∷ x .place ∷ [])
 
       go : (p q : Bool) → verdictOf (a ++ b) ≡ after (verdictOf a) (verdictOf b)
           → pick p range (pick q mismatch (verdictOf (a ++ b))) ≡ after (pick p range (pick q mismatch (verdictOf a))) (verdictOf b)
@@ -94,51 +86,52 @@ module _ (tag : Tag) (g : Layout) where
   passed-append : (a b : List Replayed) → verdictOf a ≡ passed → verdictOf (a ++ b) ≡ verdictOf b
   passed-append a b e = verdict-append a b ∙ ap (λ (w : Verdict). after w (verdictOf b)) e
 
-  refused-append : (a b : List Replayed) (x : Refusal) → verdictOf a ≡ refused x → verdictOf (a ++ b) ≡ refused x
+  refused-append : (a b : List Replayed) (x : octets.Refusal ℕ) → verdictOf a ≡ refused x → verdictOf (a ++ b) ≡ refused x
   refused-append a b x e = verdict-append a b ∙ ap (λ (w : Verdict). after w (verdictOf b)) e
 
   -- ---- the entries of a section: the first i of n pass
 
-  module _ (f : ℕ → List Replayed) (i : ℕ) (r : Check) (start : verdictOf (collect i f) ≡ passed) (found : r ≡ checkOf (verdictOf (f i))) where
+  module _ (f : ℕ → List Replayed) (i : ℕ) (r : Check) (start : verdictOf (collect i f) ≡ passed) (found : checked r ≡ verdictOf (f i)) where
     pub entries-more : r ≡ Passed → verdictOf (collect (i + 1) f) ≡ passed
     entries-more e =
-        ap (λ (n : ℕ). verdictOf (collect n f)) (add-one i) ∙ passed-append (collect i f) (f i) start ∙ check-passed (verdictOf (f i)) (sym found ∙ e)
+        ap (λ (n : ℕ). verdictOf (collect n f)) (add-one i) ∙ passed-append (collect i f) (f i) start ∙ sym found ∙ ap checked e
 
-    refused-of : (x : Refusal) → r ≡ Refused x → (n : ℕ) → i < n → verdictOf (collect n f) ≡ refused x
+    refused-of : (x : Refusal) → r ≡ Refused x → (n : ℕ) → i < n → verdictOf (collect n f) ≡ refused (refusalOf x)
     refused-of x e zero l = absurd (omega arith)
     refused-of x e (suc n) l = go (refused-of x e n) (decLt i n)
       where
-        go : (i < n → verdictOf (collect n f) ≡ refused x) → Dec (i < n) → verdictOf (collect (suc n) f) ≡ refused x
-        go ih (yes m) = refused-append (collect n f) (f n) x (ih m)
+        go : (i < n → verdictOf (collect n f) ≡ refused (refusalOf x)) → Dec (i < n) → verdictOf (collect (suc n) f) ≡ refused (refusalOf x)
+        go ih (yes m) = refused-append (collect n f) (f n) (refusalOf x) (ih m)
         go ih (no m) =
             let last : n ≡ i = omega arith in
             ap (λ (j : ℕ). verdictOf (collect (suc j) f)) last ∙ passed-append (collect i f) (f i) start
-            ∙ check-refused (verdictOf (f i)) x (sym found ∙ e)
+            ∙ sym found ∙ ap checked e
 
-    pub entries-stop : (x : Refusal) → r ≡ Refused x → (n : ℕ) → i < n → r ≡ checkOf (verdictOf (collect n f))
-    entries-stop x e n l = e ∙ ap checkOf (sym (refused-of x e n l))
+    pub entries-stop : (x : Refusal) → r ≡ Refused x → (n : ℕ) → i < n → checked r ≡ verdictOf (collect n f)
+    entries-stop x e n l = ap checked e ∙ sym (refused-of x e n l)
 
   -- ---- the sections of the replay: what is left from section k on
 
   module _ (v : List ℕ) (ok : layoutOk g ≡ true) (w : Verdict) (k : ℕ) (left : w ≡ verdictOf (replayIn g v (orderFrom (dueIds g v) (g .sections) k))) where
-    pub sections-end : g .sections ≤ k → Passed ≡ checkOf w
-    sections-end l = sym (ap checkOf (left ∙ ap (λ (L : List Found). verdictOf (replayIn g v L)) (none-from g v ok k l)))
+    pub sections-end : g .sections ≤ k → passed ≡ w
+    sections-end l = sym (left ∙ ap (λ (L : List Found). verdictOf (replayIn g v L)) (none-from g v ok k l))
 
-    module _ (l : k < g .sections) (sec : List ℕ) (is : sec ≡ sectionOf g v k) (r : Check) (found : r ≡ checkOf (verdictOf (usedOf (g .width) k sec))) where
+    module _ (l : k < g .sections) (sec : List ℕ) (is : sec ≡ sectionOf g v k) (r : Check) (found : checked r ≡ verdictOf (usedOf (g .width) k sec)) where
       abbrev here : List Replayed
       here = usedOf (g .width) k (sectionOf g v k)
 
-      found-here : r ≡ checkOf (verdictOf here)
-      found-here = found ∙ ap (λ (x : List ℕ). checkOf (verdictOf (usedOf (g .width) k x))) is
+      found-here : checked r ≡ verdictOf here
+      found-here = found ∙ ap (λ (x : List ℕ). verdictOf (usedOf (g .width) k x)) is
 
       pub sections-more : (n : ℕ) → ordered (g .sections) (laterIds (dueIds g v) (dueIds g v k) k) ≡ orderFrom (dueIds g v) (g .sections) n → r ≡ Passed
           → w ≡ verdictOf (replayIn g v (orderFrom (dueIds g v) (g .sections) n))
       sections-more n q e =
           left ∙ ap verdictOf (entries-from g v ok k n l q)
-          ∙ passed-append here (replayIn g v (orderFrom (dueIds g v) (g .sections) n)) (check-passed (verdictOf here) (sym found-here ∙ e))
+          ∙ passed-append here (replayIn g v (orderFrom (dueIds g v) (g .sections) n)) (sym found-here ∙ ap checked e)
 
-      pub sections-stop : (x : Refusal) → r ≡ Refused x → r ≡ checkOf w
+      pub sections-stop : (x : Refusal) → r ≡ Refused x → checked r ≡ w
       sections-stop x e =
           let n : ℕ = firstOf (g .sections) (ordered (g .sections) (laterIds (dueIds g v) (dueIds g v k) k)) in
-          e ∙ ap checkOf (sym (left ∙ ap verdictOf (entries-from g v ok k n l (next-of g v ok k l))
-          ∙ refused-append here (replayIn g v (orderFrom (dueIds g v) (g .sections) n)) x (check-refused (verdictOf here) x (sym found-here ∙ e))))
+          ap checked e
+          ∙ sym (left ∙ ap verdictOf (entries-from g v ok k n l (next-of g v ok k l))
+          ∙ refused-append here (replayIn g v (orderFrom (dueIds g v) (g .sections) n)) (refusalOf x) (sym found-here ∙ ap checked e))

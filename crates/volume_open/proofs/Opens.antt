@@ -7,95 +7,94 @@ use mathlib.Core.Path.{_≡_, sym, ap, _∙_, subst}
 use lib.Dec.{eqb}
 use lib.ListN.{length}
 use borrow.Author.Tests.{eq-eqb, ne-eqb}
+use Rattle.octets.specs.Answer.{Answer, taken, refused, refuse}
+use Rattle.octets.specs.Answer as octets
 use Rattle.octets.specs.Choice.{firstMet}
+use Rattle.octets.proofs.Answers.{refused-not-taken}
 use Rattle.octets.proofs.Choice.{passes, unmet, first-append, met}
 use Rattle.model.specs.declared.Layout.{Layout}
-use Rattle.model.specs.declared.OpenAnswer.the-variants.{Opened, Refused}
 use Rattle.model.specs.declared.Phase.{Phase}
-use Rattle.model.specs.declared.QueryAnswer.{QueryAnswer}
-use Rattle.model.specs.declared.QueryAnswer.the-variants.{Holds}
 use Rattle.model.specs.declared.Refusal.{Refusal}
-use Rattle.model.specs.declared.Refusal.the-variants.{Malformed, Exhausted, Misplaced}
 use Rattle.model.specs.Layout.{needed, layoutOk}
 use Rattle.model.specs.Superblock.{superblockAt, layoutIn}
 use Rattle.model.specs.Section.{allBelow, emptySection}
 use Rattle.model.specs.Journal.{greatestId, replay}
 use Rattle.model.specs.Store.{storesOf}
-use Rattle.model.specs.Tag.{Tag, tagOf}
-use Rattle.model.specs.State.{Verdict, passed, refused, lastId, stagingOk}
+use Rattle.model.specs.Tag.{Tags, tagOf}
+use Rattle.model.specs.Refusal.{refusalOf}
+use Rattle.model.specs.State.{Verdict, passed, lastId, stagingOk}
 use Rattle.model.specs.Open.{misplaced, firstBelow, superblockRows, entriesVerdict, phaseFor, OpenResult, openBy, openWith, openOf}
 use Rattle.model.specs.Query.{queryOf}
 use Rattle.journal.proofs.Scans.{some-below, none-below}
-use Rattle.volume_open.specs.Results.{checkOf}
+use Rattle.volume_open.specs.Results.{checked}
 use Rattle.volume_open.specs.declared.open.Check.{Check}
 use Rattle.volume_open.specs.declared.open.Check.the-variants as check
-use Rattle.volume_open.proofs.Checks.{check-passed, check-refused}
-use Rattle.volume_open.proofs.Queries.{refusal-no-pass, superblock-rows, valid-layout, held-passes, held-layout, held-valid, held-room}
+use Rattle.volume_open.proofs.Queries.{superblock-rows, valid-layout, held-passes, held-layout, held-valid, held-room}
 
 -- the rows behind those of volume and superblock
 abbrev journalRows : Layout → List ℕ → List ℕ → List (Bool × Verdict)
 journalRows g v st =
-    (not (stagingOk g st), refused Malformed)
-    ∷ (eqb (greatestId g v) lastId, refused Exhausted)
-    ∷ (not (allBelow (g .sections) (λ k. not (misplaced g v k))), refused (Misplaced (firstBelow (g .sections) (misplaced g v))))
+    (not (stagingOk g st), refuse 1 [])
+    ∷ (eqb (greatestId g v) lastId, refuse 10 [])
+    ∷ (not (allBelow (g .sections) (λ k. not (misplaced g v k))), refuse 11 (firstBelow (g .sections) (misplaced g v) ∷ []))
     ∷ []
 
-module _ (tag : Tag) (g : Layout) (r : ℕ) (v st : List ℕ) where
+module _ (tags : Tags) (g : Layout) (r : ℕ) (v st : List ℕ) where
   -- a refusal by volume or superblock
-  pub query-refused : (x : Refusal) → firstMet (superblockRows g r v) passed ≡ refused x → record { answer = Refused x; staging = st } ≡ openWith tag g r v st
+  pub query-refused : (x : octets.Refusal ℕ) → firstMet (superblockRows g r v) passed ≡ refused x → record { answer = refused x; staging = st } ≡ openWith tags g r v st
   unfolding openWith
   query-refused x e =
       sym (ap (openBy g v st)
-      (first-append (superblockRows g r v) (journalRows g v st) (entriesVerdict tag g (replay g v))
-      ∙ met (superblockRows g r v) (refused x) passed (firstMet (journalRows g v st) (entriesVerdict tag g (replay g v))) (refusal-no-pass x) e))
+      (first-append (superblockRows g r v) (journalRows g v st) (entriesVerdict (tags (g .width)) g (replay g v))
+      ∙ met (superblockRows g r v) (refused x) passed (firstMet (journalRows g v st) (entriesVerdict (tags (g .width)) g (replay g v))) (refused-not-taken x tt) e))
 
   module _ (superblock : firstMet (superblockRows g r v) passed ≡ passed) where
-    behind : openWith tag g r v st ≡ openBy g v st (firstMet (journalRows g v st) (entriesVerdict tag g (replay g v)))
+    behind : openWith tags g r v st ≡ openBy g v st (firstMet (journalRows g v st) (entriesVerdict (tags (g .width)) g (replay g v)))
     unfolding openWith
     behind =
         ap (openBy g v st)
-        (first-append (superblockRows g r v) (journalRows g v st) (entriesVerdict tag g (replay g v))
-        ∙ passes (superblockRows g r v) (firstMet (journalRows g v st) (entriesVerdict tag g (replay g v)))
+        (first-append (superblockRows g r v) (journalRows g v st) (entriesVerdict (tags (g .width)) g (replay g v))
+        ∙ passes (superblockRows g r v) (firstMet (journalRows g v st) (entriesVerdict (tags (g .width)) g (replay g v)))
         (unmet (superblockRows g r v) passed (superblock-rows g r v) superblock))
 
-    pub wrong-staging : stagingOk g st ≡ false → record { answer = Refused Malformed; staging = st } ≡ openWith tag g r v st
+    pub wrong-staging : stagingOk g st ≡ false → record { answer = refuse 1 []; staging = st } ≡ openWith tags g r v st
     wrong-staging e = sym (behind ∙ rw e)
 
     module _ (staging : stagingOk g st ≡ true) (n : ℕ) (greatest : n ≡ greatestId g v) where
-      pub exhausted : n ≡ lastId → record { answer = Refused Exhausted; staging = st } ≡ openWith tag g r v st
+      pub exhausted : n ≡ lastId → record { answer = refuse 10 []; staging = st } ≡ openWith tags g r v st
       exhausted e = sym (behind ∙ rw (staging, eq-eqb (greatestId g v) lastId (sym greatest ∙ e)))
 
       module _ (more : n ≢ lastId) (m : ℕ) (first : m ≡ firstBelow (suc (g .sections)) (misplaced g v)) where
         ids-left : eqb (greatestId g v) lastId ≡ false
         ids-left = ne-eqb (greatestId g v) lastId (λ e. more (greatest ∙ e))
 
-        pub section-misplaced : m < g .sections → record { answer = Refused (Misplaced m); staging = st } ≡ openWith tag g r v st
+        pub section-misplaced : m < g .sections → record { answer = refuse 11 (m ∷ []); staging = st } ≡ openWith tags g r v st
         section-misplaced l =
             let found = some-below (misplaced g v) (g .sections) m first l in
-            sym (behind ∙ rw (staging, ids-left, found .0) (ap (λ (k : ℕ). record { answer = Refused (Misplaced k); staging = st }) (sym (found .1))))
+            sym (behind ∙ rw (staging, ids-left, found .0) (ap (λ (k : ℕ). record { answer = refuse 11 (k ∷ []); staging = st }) (sym (found .1))))
 
-        module _ (some : 0 < g .sections) (last : g .sections ≤ m) (c : Check) (checked : c ≡ checkOf (entriesVerdict tag g (replay g v))) where
+        module _ (some : 0 < g .sections) (last : g .sections ≤ m) (c : Check) (is : checked c ≡ entriesVerdict (tags (g .width)) g (replay g v)) where
           in-place : allBelow (g .sections) (λ k. not (misplaced g v k)) ≡ true
           in-place = none-below (misplaced g v) (g .sections) m first some last
 
-          pub entry-refused : (x : Refusal) → c ≡ check.Refused x → record { answer = Refused x; staging = st } ≡ openWith tag g r v st
+          pub entry-refused : (x : Refusal) → c ≡ check.Refused x → record { answer = refused (refusalOf x); staging = st } ≡ openWith tags g r v st
           entry-refused x e =
-              sym (behind ∙ rw (staging, ids-left, in-place) (ap (openBy g v st) (check-refused (entriesVerdict tag g (replay g v)) x (sym checked ∙ e))))
+              sym (behind ∙ rw (staging, ids-left, in-place) (ap (openBy g v st) (sym is ∙ ap checked e)))
 
           pub opened : c ≡ check.Passed → (o : List ℕ) → o ≡ emptySection (g .width) → (t : ℕ) → t ≡ storesOf g (replay g v) → (p : Phase) → p ≡ phaseFor t
-              → record { answer = Opened (record { layout = g; phase = p; count = 0; id = n + 1 }) t; staging = o } ≡ openWith tag g r v st
+              → record { answer = taken (record { layout = g; phase = p; count = 0; id = n + 1 }, t); staging = o } ≡ openWith tags g r v st
           opened e o eo t et p ep =
-              sym (behind ∙ rw (staging, ids-left, in-place) (ap (openBy g v st) (check-passed (entriesVerdict tag g (replay g v)) (sym checked ∙ e)) ∙ sym results))
+              sym (behind ∙ rw (staging, ids-left, in-place) (ap (openBy g v st) (sym is ∙ ap checked e) ∙ sym results))
             where
               phase : p ≡ phaseFor (storesOf g (replay g v))
               phase = ep ∙ ap phaseFor et
 
-              results : record { answer = Opened (record { layout = g; phase = p; count = 0; id = n + 1 }) t; staging = o } ≡ openBy g v st passed
-              results = λ i. record { answer = Opened (record { layout = g; phase = phase i; count = 0; id = greatest i + 1 }) (et i); staging = eo i }
+              results : record { answer = taken (record { layout = g; phase = p; count = 0; id = n + 1 }, t); staging = o } ≡ openBy g v st passed
+              results = λ i. record { answer = taken (record { layout = g; phase = phase i; count = 0; id = greatest i + 1 }, et i); staging = eo i }
 
 -- ---- the call, where query holds the layout h
 
-module _ (r : ℕ) (v : List ℕ) (a : QueryAnswer) (is : a ≡ queryOf r v) (h : Layout) (n : ℕ) (e : a ≡ Holds h n) where
+module _ (r : ℕ) (v : List ℕ) (a : Answer ℕ (Layout × ℕ)) (is : a ≡ queryOf r v) (h : Layout) (n : ℕ) (e : a ≡ taken (h, n)) where
   abbrev decoded : Layout
   decoded = layoutIn r (superblockAt r v)
 
@@ -113,7 +112,7 @@ module _ (r : ℕ) (v : List ℕ) (a : QueryAnswer) (is : a ≡ queryOf r v) (h 
         ∙ ap (λ (x : Layout). firstMet (superblockRows x r v) passed) (sym same-layout) ∙ held-passes decoded r v a is h n e,
   )
 
-  pub held-opens : (st : List ℕ) (o : OpenResult) → o ≡ openWith (tagOf (h .width)) h (h .reserved) v st → o ≡ openOf (tagOf (decoded .width)) r v st
+  pub held-opens : (st : List ℕ) (o : OpenResult) → o ≡ openWith tagOf h (h .reserved) v st → o ≡ openOf tagOf r v st
   held-opens st o q =
-      q ∙ ap (λ (k : ℕ). openWith (tagOf (h .width)) h k v st) behind-reserved
-      ∙ ap (λ (x : Layout). openWith (tagOf (x .width)) x r v st) (sym same-layout)
+      q ∙ ap (λ (k : ℕ). openWith tagOf h k v st) behind-reserved
+      ∙ ap (λ (x : Layout). openWith tagOf x r v st) (sym same-layout)

@@ -1,44 +1,42 @@
 -- Query: one law to a return, and what an answer says of the volume.
 use Prim.Native.Nat.{ℕ, _+_, _*_, _≤_, _<_}
 use mathlib.Core.Bool.{true, false}
-use mathlib.Core.List.{List}
+use mathlib.Core.List.{List, [], _∷_}
 use mathlib.Core.Logic.{_≢_}
 use mathlib.Core.Path.{_≡_, refl, sym, ap, _∙_}
 use native.Mathlib.Omega.{arith}
 use lib.ListN.{length}
 use borrow.Author.Tests.{lt-ltb, le-ltb, ltb-false, not-false}
+use Rattle.octets.specs.Answer.{Answer, Refusal, taken, refused, refuse}
 use Rattle.octets.specs.Choice.{firstMet, Unmet, NoneAnswers}
 use Rattle.octets.specs.Parts.{same}
+use Rattle.octets.proofs.Answers.{taken-same, refused-not-taken}
 use Rattle.octets.proofs.Choice.{unmet}
 use Rattle.model.specs.declared.Layout.{Layout}
-use Rattle.model.specs.declared.QueryAnswer.{QueryAnswer}
-use Rattle.model.specs.declared.QueryAnswer.the-variants.{Holds, Refused}
-use Rattle.model.specs.declared.Refusal.{Refusal}
-use Rattle.model.specs.declared.Refusal.the-variants.{Malformed, Parameter, Superblock, Invalid, Short}
 use Rattle.model.specs.Layout.{sectionSize, needed, layoutOk}
 use Rattle.model.specs.Superblock.{superblockOf, superblockAt, layoutIn, isZero, superblockOk}
-use Rattle.model.specs.State.{Verdict, passed, refused, volumeLoanOk}
+use Rattle.model.specs.State.{Verdict, passed, volumeLoanOk}
 use Rattle.model.specs.Open.{superblockRows}
 use Rattle.model.specs.Query.{queryBy, queryWith}
 use Rattle.model.proofs.Addresses.{and-both}
 
 module _ (g : Layout) (r : ℕ) (v : List ℕ) where
-  pub wrong-loan : volumeLoanOk v ≡ false → Refused Malformed ≡ queryWith g r v
+  pub wrong-loan : volumeLoanOk v ≡ false → refuse 1 [] ≡ queryWith g r v
   unfolding queryWith
   wrong-loan e = rw e
 
   module _ (loan : volumeLoanOk v ≡ true) where
-    pub out-of-range : 64 < r → Refused Parameter ≡ queryWith g r v
+    pub out-of-range : 64 < r → refuse 2 [] ≡ queryWith g r v
     unfolding queryWith
     out-of-range l = rw (loan, lt-ltb 64 r l)
 
     module _ (low : r ≤ 64) where
-      pub short-of-superblock : length v < (r + 8) * 512 → Refused (Short (r + 8)) ≡ queryWith g r v
+      pub short-of-superblock : length v < (r + 8) * 512 → refuse 5 ((r + 8) ∷ []) ≡ queryWith g r v
       unfolding queryWith
       short-of-superblock l = rw (loan, le-ltb 64 r low, lt-ltb (length v) ((r + 8) * 512) l)
 
       module _ (room : (r + 8) * 512 ≤ length v) (b : List ℕ) (is : b ≡ superblockAt r v) where
-        pub not-formatted : isZero b ≡ true → Refused Superblock ≡ queryWith g r v
+        pub not-formatted : isZero b ≡ true → refuse 3 [] ≡ queryWith g r v
         unfolding queryWith
         not-formatted e =
             let zero : isZero (superblockAt r v) ≡ true = ap isZero (sym is) ∙ e in
@@ -48,7 +46,7 @@ module _ (g : Layout) (r : ℕ) (v : List ℕ) where
           written-at : isZero (superblockAt r v) ≡ false
           written-at = ap isZero (sym is) ∙ written
 
-          pub invalid : superblockOk r b ≡ false → Refused Invalid ≡ queryWith g r v
+          pub invalid : superblockOk r b ≡ false → refuse 4 [] ≡ queryWith g r v
           unfolding queryWith
           invalid e =
               let wrong : superblockOk r (superblockAt r v) ≡ false = ap (superblockOk r) (sym is) ∙ e in
@@ -58,7 +56,7 @@ module _ (g : Layout) (r : ℕ) (v : List ℕ) where
             valid-at : superblockOk r (superblockAt r v) ≡ true
             valid-at = ap (superblockOk r) (sym is) ∙ valid
 
-            pub short : (n : ℕ) → n ≡ needed g → length v < n * 512 → Refused (Short n) ≡ queryWith g r v
+            pub short : (n : ℕ) → n ≡ needed g → length v < n * 512 → refuse 5 (n ∷ []) ≡ queryWith g r v
             unfolding queryWith
             short n e l =
                 rw (
@@ -71,7 +69,7 @@ module _ (g : Layout) (r : ℕ) (v : List ℕ) where
                   e,
                 )
 
-            pub holds : (n m : ℕ) → n ≡ needed g → n * 512 ≤ length v → m ≡ sectionSize (g .width) → Holds g (m * 512) ≡ queryWith g r v
+            pub holds : (n m : ℕ) → n ≡ needed g → n * 512 ≤ length v → m ≡ sectionSize (g .width) → taken (g, m * 512) ≡ queryWith g r v
             unfolding queryWith
             holds n m e l q =
                 rw (
@@ -90,15 +88,12 @@ valid-layout r b e = and-both (same b (superblockOf (layoutIn r b))) (layoutOk (
 
 -- ---- what an answer says
 
-pub refusal-no-pass : (x : Refusal) → refused x ≢ passed
-refusal-no-pass x q = let z : _≡_ {A = ℕ} 0 1 = cc in omega arith
-
 pub superblock-rows : (g : Layout) (r : ℕ) (v : List ℕ) → NoneAnswers (superblockRows g r v) passed
 superblock-rows g r v =
-    let no = refusal-no-pass in
-    (no Malformed, (no Parameter, (no (Short (r + 8)), (no Superblock, (no Invalid, (no (Short (needed g)), tt))))))
+    let no = λ (x : Refusal ℕ). refused-not-taken x tt in
+    (no _, (no _, (no _, (no _, (no _, (no _, tt))))))
 
-module _ (g : Layout) (r : ℕ) (v : List ℕ) (a : QueryAnswer) (is : a ≡ queryWith g r v) where
+module _ (g : Layout) (r : ℕ) (v : List ℕ) (a : Answer ℕ (Layout × ℕ)) (is : a ≡ queryWith g r v) where
   abbrev verdict : Verdict
   verdict = firstMet (superblockRows g r v) passed
 
@@ -106,26 +101,26 @@ module _ (g : Layout) (r : ℕ) (v : List ℕ) (a : QueryAnswer) (is : a ≡ que
   unfolding queryWith
   asked = is
 
-  pub refused-by : (x : Refusal) → a ≡ Refused x → verdict ≡ refused x
+  pub refused-by : (x : Refusal ℕ) → a ≡ refused x → verdict ≡ refused x
   refused-by x e = go verdict (sym asked ∙ e)
     where
-      go : (w : Verdict) → queryBy g w ≡ Refused x → w ≡ refused x
-      go passed q = absurd (let z : _≡_ {A = ℕ} 0 1 = cc in omega arith)
+      go : (w : Verdict) → queryBy g w ≡ refused x → w ≡ refused x
+      go (taken y) q = absurd (let z : _≡_ {A = ℕ} 0 1 = cc in omega arith)
       go (refused y) q = cc
 
-  module _ (h : Layout) (n : ℕ) (e : a ≡ Holds h n) where
+  module _ (h : Layout) (n : ℕ) (e : a ≡ taken (h, n)) where
     pub held-passes : verdict ≡ passed
     held-passes = go verdict (sym asked ∙ e)
       where
-        go : (w : Verdict) → queryBy g w ≡ Holds h n → w ≡ passed
-        go passed q = refl
+        go : (w : Verdict) → queryBy g w ≡ taken (h, n) → w ≡ passed
+        go (taken y) q = refl
         go (refused y) q = absurd (let z : _≡_ {A = ℕ} 0 1 = cc in omega arith)
 
     pub held-layout : g ≡ h
     held-layout = go verdict (sym asked ∙ e)
       where
-        go : (w : Verdict) → queryBy g w ≡ Holds h n → g ≡ h
-        go passed q = cc
+        go : (w : Verdict) → queryBy g w ≡ taken (h, n) → g ≡ h
+        go (taken y) q = ap (λ (x : Layout × ℕ). x .0) (taken-same (g, sectionSize (g .width) * 512) (h, n) q)
         go (refused y) q = absurd (let z : _≡_ {A = ℕ} 0 1 = cc in omega arith)
 
     held-unmet : Unmet (superblockRows g r v)

@@ -21,13 +21,13 @@ ghost use lib.ListN.{length};
 ghost use Rattle.octets.specs.Choice.{firstMet};
 ghost use Rattle.model.specs.Layout.{entryCount, sectionSize, needed, layoutOk};
 ghost use Rattle.model.specs.Section.{entryOf};
-ghost use Rattle.model.specs.Superblock.{superblockAt, layoutIn};
 ghost use Rattle.model.specs.Journal.{usedEntry, usedOf, replay};
 ghost use Rattle.model.specs.Tag.{tagOf};
+ghost use Rattle.model.specs.Refusal.{openAnswer};
 ghost use Rattle.model.specs.State.{passed};
 ghost use Rattle.model.specs.Open.{superblockRows, entriesVerdict, phaseFor, openWith, openOf};
 ghost use Rattle.journal.specs.Replay.{idsOf};
-ghost use Rattle.volume_open.specs.Results.{checkOf};
+ghost use Rattle.volume_open.specs.Results.{checked};
 
 // What the check of entries to be replayed found.
 enum Check {
@@ -38,7 +38,7 @@ enum Check {
 // Whether entry i of section k, if it is used, can be replayed.
 fn check_entry(g: Layout, section: &[u8], k: usize, i: usize) -> Check
     requires { ⌜ (layoutOk g ≡ true) × (length (now section) ≡ sectionSize (g .width) * 512) × (i < entryCount (g .width)) ⌝ }
-    ensures { λ r. ⌜ r ≡ checkOf (entriesVerdict (tagOf (g .width)) g (usedEntry k i (entryOf (g .width) (now (section .entry)) i))) ⌝ }
+    ensures { λ r. ⌜ checked r ≡ entriesVerdict (tagOf (g .width)) g (usedEntry k i (entryOf (g .width) (now (section .entry)) i)) ⌝ }
 {
     let sector = section::entry_sector(section, g.width, i);
     if sector == UNUSED {
@@ -60,7 +60,7 @@ fn check_entry(g: Layout, section: &[u8], k: usize, i: usize) -> Check
 // Whether every used entry of section k can be replayed; else the refusal for the first that cannot.
 fn check_section(g: Layout, section: &[u8], k: usize) -> Check
     requires { ⌜ (layoutOk g ≡ true) × (length (now section) ≡ sectionSize (g .width) * 512) ⌝ }
-    ensures { λ r. ⌜ r ≡ checkOf (entriesVerdict (tagOf (g .width)) g (usedOf (g .width) k (now (section .entry)))) ⌝ }
+    ensures { λ r. ⌜ checked r ≡ entriesVerdict (tagOf (g .width)) g (usedOf (g .width) k (now (section .entry))) ⌝ }
 {
     let count = layout::entry_count(g.width);
     let mut i = 0;
@@ -78,7 +78,7 @@ fn check_section(g: Layout, section: &[u8], k: usize) -> Check
 // Whether every entry to be replayed can be, in replay order.
 fn check_replay(ids: &[u64; MOST_SECTIONS], v: &[u8], g: Layout) -> Check
     requires { ⌜ (layoutOk g ≡ true) × (needed g * 512 ≤ length (now v)) × (now ids ≡ idsOf g (now v)) ⌝ }
-    ensures { λ r. ⌜ r ≡ checkOf (entriesVerdict (tagOf (g .width)) g (replay g (now (v .entry)))) ⌝ }
+    ensures { λ r. ⌜ checked r ≡ entriesVerdict (tagOf (g .width)) g (replay g (now (v .entry))) ⌝ }
 {
     let mut k = sections::next_section(ids, g.sections, 0, 0);
     while k < g.sections {
@@ -105,7 +105,7 @@ fn phase_for(stores: usize) -> Phase
 // Opens a volume whose superblock and length are as they must be.
 fn open_journal(v: &[u8], st: &mut [u8], g: Layout) -> OpenAnswer
     requires { ⌜ (layoutOk g ≡ true) × (needed g * 512 ≤ length (now v)) × (firstMet (superblockRows g (g .reserved) (now v)) passed ≡ passed) ⌝ }
-    ensures { λ a. ⌜ record { answer = a; staging = now (st .exit) } ≡ openWith (tagOf (g .width)) g (g .reserved) (now (v .entry)) (now (st .entry)) ⌝ }
+    ensures { λ a. ⌜ record { answer = openAnswer a; staging = now (st .exit) } ≡ openWith tagOf g (g .reserved) (now (v .entry)) (now (st .entry)) ⌝ }
 {
     if !state::staging_ok(g, st) {
         return OpenAnswer::Refused(Refusal::Malformed);
@@ -140,7 +140,7 @@ fn open_journal(v: &[u8], st: &mut [u8], g: Layout) -> OpenAnswer
 // Checks volume and journal, makes the staging loan an empty batch, and gives the state and the number of stores that replay the journal. It stores
 // nothing on the volume.
 pub fn open(v: &[u8], st: &mut [u8], r: usize) -> OpenAnswer
-    ensures { λ a. ⌜ record { answer = a; staging = now (st .exit) } ≡ openOf (tagOf (layoutIn r (superblockAt r (now (v .entry))) .width)) r (now (v .entry)) (now (st .entry)) ⌝ }
+    ensures { λ a. ⌜ record { answer = openAnswer a; staging = now (st .exit) } ≡ openOf tagOf r (now (v .entry)) (now (st .entry)) ⌝ }
 {
     let held = query::query(v, r);
     match held {

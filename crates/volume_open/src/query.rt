@@ -6,11 +6,12 @@ use layout::superblock;
 use model::QueryAnswer;
 use model::Refusal;
 ghost use mathlib.Core.Path.{_≡_};
+ghost use Rattle.model.specs.Refusal.{queryAnswer};
 ghost use Rattle.model.specs.Query.{queryOf};
 
 // The numbers that the superblock holds, and the bytes of the staging loan that open takes with them.
 pub fn query(v: &[u8], r: usize) -> QueryAnswer
-    ensures { λ a. ⌜ a ≡ queryOf r (now (v .entry)) ⌝ }
+    ensures { λ a. ⌜ queryAnswer a ≡ queryOf r (now (v .entry)) ⌝ }
 {
     if !layout::volume_loan_ok(v) {
         return QueryAnswer::Refused(Refusal::Malformed);

@@ -10,7 +10,6 @@ use Rattle.model.specs.Journal.{Replayed, usedEntry}
 use Rattle.model.specs.State.{passed}
 use Rattle.model.specs.Tag.{tagOf}
 use Rattle.model.specs.declared.Layout.{Layout}
-use Rattle.volume_open.specs.Results.{checkOf}
 use Rattle.volume_open.proofs.Checks.{verdictOf, entries-more, entries-stop}
 use Rattle.volume_open.proofs.open.check_section.Statement.{statement}
 use Rattle.volume_open.proofs.open.check_section.Tie as tie
@@ -54,7 +53,7 @@ returns-2 : tie.Need-returns-2 Inv-loop μ-loop
 returns-2 c =
     let a = c .before .before .before .before .args in
     let all : entryCount (a .g .width) ≡ c .before .loop .i = omega arith in
-    sym (ap checkOf (ap (λ (n : ℕ). verdictOf (tagOf (a .g .width)) (a .g) (collect n (usedAt (a .g) (a .section .now) (a .k)))) all ∙ c .before .loop .inv .3))
+    sym (ap (λ (n : ℕ). verdictOf (tagOf (a .g .width)) (a .g) (collect n (usedAt (a .g) (a .section .now) (a .k)))) all ∙ c .before .loop .inv .3)
 
 pub check-section-spec : {M : Type 1} → statement M
 check-section-spec =

@@ -1,5 +1,7 @@
+use mathlib.Core.Path.{ap}
 use borrow.Author.Needs.{needs}
 use Rattle.model.specs.Superblock.{superblockAt, layoutIn}
+use Rattle.model.specs.Refusal.{queryAnswer}
 use Rattle.model.specs.Tag.{tagOf}
 use Rattle.volume_open.proofs.Queries.{refused-by}
 use Rattle.volume_open.proofs.Opens.{query-refused, held-opens, held-requires}
@@ -9,18 +11,18 @@ use Rattle.volume_open.proofs.open.open.Tie as tie
 open-journal-requires : tie.Need-open-journal-requires
 open-journal-requires c κs =
     let a = c .before .before .before .before .before .before .before .args in
-    held-requires (a .r) (a .v .now) (c .before .before .before .before .query .result) (c .before .before .before .before .query .ensures) _ _ (c .before .before .held .given .1)
+    held-requires (a .r) (a .v .now) _ (c .before .before .before .before .query .ensures) _ _ (ap queryAnswer (c .before .before .held .given .1))
 
 returns : tie.Need-returns
 returns c =
     let a = c .before .before .before .before .before .before .before .before .before .before .args in
-    held-opens (a .r) (a .v .now) (c .before .before .before .before .before .before .before .query .result) (c .before .before .before .before .before .before .before .query .ensures) _ _ (c .before .before .before .before .before .held .given .1) (a .st .now) _ (c .before .before .open-journal .ensures)
+    held-opens (a .r) (a .v .now) _ (c .before .before .before .before .before .before .before .query .ensures) _ _ (ap queryAnswer (c .before .before .before .before .before .held .given .1)) (a .st .now) _ (c .before .before .open-journal .ensures)
 
 returns-2 : tie.Need-returns-2
 returns-2 c =
     let a = c .before .before .before .before .before .before .args in
     let g = layoutIn (a .r) (superblockAt (a .r) (a .v .now)) in
-    query-refused (tagOf (g .width)) g (a .r) (a .v .now) (a .st .now) _ (refused-by g (a .r) (a .v .now) (c .before .before .before .query .result) (c .before .before .before .query .ensures) _ (c .before .held2 .given .1))
+    query-refused tagOf g (a .r) (a .v .now) (a .st .now) _ (refused-by g (a .r) (a .v .now) _ (c .before .before .before .query .ensures) _ (ap queryAnswer (c .before .held2 .given .1)))
 
 pub open-spec : {M : Type 1} → statement M
 open-spec =
