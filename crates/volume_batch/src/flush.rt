@@ -8,12 +8,14 @@ use sound::state;
 use sound::state::LAST_ID;
 ghost use mathlib.Core.Path.{_≡_};
 ghost use Rattle.model.specs.declared.Refusal.{Refusal};
-ghost use Rattle.model.specs.State.{refused};
+ghost use Rattle.octets.specs.Answer.{refused};
+ghost use Rattle.model.specs.Refusal.{refusalOf};
 ghost use Rattle.model.specs.Flush.{flushBy, flushOf};
+ghost use Rattle.volume_batch.specs.Results.{flushed};
 
 // The state is as it was.
 fn refuse(s: State, r: Refusal) -> Flushed
-    ensures { λ f. ⌜ f ≡ flushBy s (refused r) ⌝ }
+    ensures { λ f. ⌜ flushed f ≡ flushBy s (refused (refusalOf r)) ⌝ }
 {
     Flushed {
         answer: FlushAnswer::Refused(r),
@@ -23,7 +25,7 @@ fn refuse(s: State, r: Refusal) -> Flushed
 
 // An empty batch is acknowledged at once; otherwise committing begins.
 pub fn flush(s: State) -> Flushed
-    ensures { λ f. ⌜ f ≡ flushOf s ⌝ }
+    ensures { λ f. ⌜ flushed f ≡ flushOf s ⌝ }
 {
     if !state::state_ok(s) {
         return refuse(s, Refusal::Malformed);

@@ -22,7 +22,7 @@ fn refuse(s: State, r: Refusal) -> Written
 
 // Adds one entry to the batch in staging, also when the sector is already there.
 pub fn write(s: State, st: &mut [u8], sector: usize, bytes: &[u8]) -> Written
-    ensures { λ w. ⌜ written w (now (st .exit)) ≡ writeOf (tagOf (s .layout .width)) s (now (st .entry)) sector (now (bytes .entry)) ⌝ }
+    ensures { λ w. ⌜ written w (now (st .exit)) ≡ writeOf tagOf s (now (st .entry)) sector (now (bytes .entry)) ⌝ }
 {
     if !state::state_ok(s) {
         return refuse(s, Refusal::Malformed);

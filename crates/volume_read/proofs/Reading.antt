@@ -1,26 +1,25 @@
 -- Read: the newest staged entry, the tag of a sector, and one law to a return.
 use Prim.Native.Nat.{ℕ, zero, suc, _+_, _-_, _*_, _≤_, _<_}
 use mathlib.Core.Bool.{Bool, true, false, not, _&&_}
-use mathlib.Core.List.{List, _++_}
+use mathlib.Core.List.{List, [], _∷_, _++_}
 use mathlib.Core.Logic.{_≢_}
 use mathlib.Core.Path.{_≡_, refl, sym, ap, _∙_}
 use native.Mathlib.Omega.{arith}
 use lib.Dec.{eqb}
 use lib.ListN.{length}
 use borrow.Author.Tests.{eq-eqb, ne-eqb, le-leb, lt-leb}
+use Rattle.octets.specs.Answer.{refuse}
 use Rattle.octets.specs.Numbers.{le}
 use Rattle.octets.specs.Parts.{part, patch, same}
 use Rattle.octets.proofs.Parts.{length-part, patch-all}
 use Rattle.octets.specs.Sectors.{sectorAt}
 use Rattle.digest.specs.Sha256.{sha256}
 use Rattle.model.specs.declared.Layout.{Layout}
-use Rattle.model.specs.declared.ReadAnswer.the-variants.{Found, Refused}
-use Rattle.model.specs.declared.Refusal.the-variants.{Malformed, NotNow, Range, TagMismatch}
 use Rattle.model.specs.declared.State.{State}
 use Rattle.model.specs.Layout.{dataAt, tagByte}
 use Rattle.model.specs.Section.{entryOf, allBelow}
-use Rattle.model.specs.Tag.{Tag, tagOf, tagAt}
-use Rattle.model.specs.State.{stateOk, volumeOk, stagingOk, isRecovering}
+use Rattle.model.specs.Tag.{Tags, tagOf, tagAt}
+use Rattle.model.specs.State.{passed, stateOk, volumeOk, stagingOk, isRecovering}
 use Rattle.model.specs.Read.{newest, staged, readOf}
 use Rattle.model.proofs.Replays.{Which, isTrue, isFalse, which}
 use Rattle.volume_read.specs.Newest.{newestPlace}
@@ -70,66 +69,66 @@ fits-is g v n d r at start end ea es ee ed er =
     let size : end - start ≡ 512 = omega arith in
     rw (er, ed, size, ea, es)
 
-module _ (tag : Tag) (s : State) (v st : List ℕ) (n : ℕ) (loan : List ℕ) where
-  pub unsound : stateOk s ≡ false → record { answer = Refused Malformed; sector = loan } ≡ readOf tag s v st n loan
+module _ (tags : Tags) (s : State) (v st : List ℕ) (n : ℕ) (loan : List ℕ) where
+  pub unsound : stateOk s ≡ false → record { answer = refuse 1 []; sector = loan } ≡ readOf tags s v st n loan
   unfolding readOf
   unsound e = rw e
 
   module _ (ok : stateOk s ≡ true) where
-    pub wrong-volume : volumeOk s v ≡ false → record { answer = Refused Malformed; sector = loan } ≡ readOf tag s v st n loan
+    pub wrong-volume : volumeOk s v ≡ false → record { answer = refuse 1 []; sector = loan } ≡ readOf tags s v st n loan
     unfolding readOf
     wrong-volume e = rw (ok, e)
 
     module _ (fits : volumeOk s v ≡ true) where
-      pub wrong-staging : stagingOk (s .layout) st ≡ false → record { answer = Refused Malformed; sector = loan } ≡ readOf tag s v st n loan
+      pub wrong-staging : stagingOk (s .layout) st ≡ false → record { answer = refuse 1 []; sector = loan } ≡ readOf tags s v st n loan
       unfolding readOf
       wrong-staging e = rw (ok, fits, e)
 
       module _ (staging : stagingOk (s .layout) st ≡ true) where
-        pub wrong-loan : length loan ≢ 512 → record { answer = Refused Malformed; sector = loan } ≡ readOf tag s v st n loan
+        pub wrong-loan : length loan ≢ 512 → record { answer = refuse 1 []; sector = loan } ≡ readOf tags s v st n loan
         unfolding readOf
         wrong-loan e = rw (ok, fits, staging, ne-eqb (length loan) 512 e)
 
         module _ (whole : length loan ≡ 512) where
-          pub not-now : isRecovering (s .phase) ≡ true → record { answer = Refused NotNow; sector = loan } ≡ readOf tag s v st n loan
+          pub not-now : isRecovering (s .phase) ≡ true → record { answer = refuse 9 []; sector = loan } ≡ readOf tags s v st n loan
           unfolding readOf
           not-now e = rw (ok, fits, staging, eq-eqb (length loan) 512 whole, e)
 
           module _ (ready : isRecovering (s .phase) ≡ false) where
-            pub out-of-range : s .layout .provided ≤ n → record { answer = Refused Range; sector = loan } ≡ readOf tag s v st n loan
+            pub out-of-range : s .layout .provided ≤ n → record { answer = refuse 6 []; sector = loan } ≡ readOf tags s v st n loan
             unfolding readOf
             out-of-range e = rw (ok, fits, staging, eq-eqb (length loan) 512 whole, ready, le-leb (s .layout .provided) n e)
 
             module _ (low : n < s .layout .provided) (i : ℕ) (ei : i ≡ newestPlace (s .layout .width) st (s .count) (s .count) n) where
-              pub found-staged : i < s .count → (o : List ℕ) → o ≡ entryOf (s .layout .width) st i .bytes → record { answer = Found; sector = o } ≡ readOf tag s v st n loan
+              pub found-staged : i < s .count → (o : List ℕ) → o ≡ entryOf (s .layout .width) st i .bytes → record { answer = passed; sector = o } ≡ readOf tags s v st n loan
               unfolding readOf
               found-staged l o e = go (search (s .layout .width) st (s .count) (s .count) n (sectorAt v (dataAt (s .layout) n)))
                 where
-                  go : Search (s .layout .width) st (s .count) (s .count) n (sectorAt v (dataAt (s .layout) n)) → record { answer = Found; sector = o } ≡ readOf tag s v st n loan
+                  go : Search (s .layout .width) st (s .count) (s .count) n (sectorAt v (dataAt (s .layout) n)) → record { answer = passed; sector = o } ≡ readOf tags s v st n loan
                   go (miss a b c) = absurd (omega arith)
                   go (hit a b c) =
                       rw (ok, fits, staging, eq-eqb (length loan) 512 whole, ready, lt-leb (s .layout .provided) n low, b, c)
-                      (ap (λ (x : List ℕ). record { answer = Found; sector = x }) (e ∙ ap (λ (k : ℕ). entryOf (s .layout .width) st k .bytes) ei))
+                      (ap (λ (x : List ℕ). record { answer = passed; sector = x }) (e ∙ ap (λ (k : ℕ). entryOf (s .layout .width) st k .bytes) ei))
 
-              module _ (above : s .count ≤ i) (f : Bool) (ef : f ≡ same (tagAt (s .layout) v n) (tag n (sectorAt v (dataAt (s .layout) n)))) where
-                pub mismatch : f ≡ false → record { answer = Refused (TagMismatch n); sector = loan } ≡ readOf tag s v st n loan
+              module _ (above : s .count ≤ i) (f : Bool) (ef : f ≡ same (tagAt (s .layout) v n) (tags (s .layout .width) n (sectorAt v (dataAt (s .layout) n)))) where
+                pub mismatch : f ≡ false → record { answer = refuse 7 (n ∷ []); sector = loan } ≡ readOf tags s v st n loan
                 unfolding readOf
                 mismatch q = go (search (s .layout .width) st (s .count) (s .count) n (sectorAt v (dataAt (s .layout) n)))
                   where
                     go : Search (s .layout .width) st (s .count) (s .count) n (sectorAt v (dataAt (s .layout) n))
-                        → record { answer = Refused (TagMismatch n); sector = loan } ≡ readOf tag s v st n loan
+                        → record { answer = refuse 7 (n ∷ []); sector = loan } ≡ readOf tags s v st n loan
                     go (hit a b c) = absurd (omega arith)
                     go (miss a b c) = rw (ok, fits, staging, eq-eqb (length loan) 512 whole, ready, lt-leb (s .layout .provided) n low, b, ← ef, q)
 
-                pub found-home : f ≡ true → (o : List ℕ) → o ≡ sectorAt v (dataAt (s .layout) n) → record { answer = Found; sector = o } ≡ readOf tag s v st n loan
+                pub found-home : f ≡ true → (o : List ℕ) → o ≡ sectorAt v (dataAt (s .layout) n) → record { answer = passed; sector = o } ≡ readOf tags s v st n loan
                 unfolding readOf
                 found-home q o e = go (search (s .layout .width) st (s .count) (s .count) n (sectorAt v (dataAt (s .layout) n)))
                   where
-                    go : Search (s .layout .width) st (s .count) (s .count) n (sectorAt v (dataAt (s .layout) n)) → record { answer = Found; sector = o } ≡ readOf tag s v st n loan
+                    go : Search (s .layout .width) st (s .count) (s .count) n (sectorAt v (dataAt (s .layout) n)) → record { answer = passed; sector = o } ≡ readOf tags s v st n loan
                     go (hit a b c) = absurd (omega arith)
                     go (miss a b c) =
                         rw (ok, fits, staging, eq-eqb (length loan) 512 whole, ready, lt-leb (s .layout .provided) n low, b, ← ef, q, c)
-                        (ap (λ (x : List ℕ). record { answer = Found; sector = x }) e)
+                        (ap (λ (x : List ℕ). record { answer = passed; sector = x }) e)
 
 -- a sector copied into a loan as long
 pub sector-copied : (g : Layout) (v : List ℕ) (n a : ℕ) (loan r : List ℕ) → a ≡ dataAt g n → (a + 1) * 512 ≤ length v → length loan ≡ 512

@@ -14,6 +14,7 @@ ghost use Rattle.octets.specs.Parts.{same};
 ghost use Rattle.octets.specs.Sectors.{sectorAt};
 ghost use Rattle.model.specs.Layout.{entryCount, sectionSize, dataAt, needed, layoutOk};
 ghost use Rattle.model.specs.Tag.{tagOf, tagAt};
+ghost use Rattle.model.specs.Refusal.{readAnswer};
 ghost use Rattle.model.specs.Read.{readOf};
 ghost use Rattle.volume_read.specs.Newest.{newestPlace};
 
@@ -45,7 +46,7 @@ fn tag_fits(v: &[u8], g: Layout, sector: usize) -> bool
 
 // Gives the newest entry for a sector in staging; else the volume's data if its tag fits.
 pub fn read(s: State, v: &[u8], st: &[u8], sector: usize, bytes: &mut [u8]) -> ReadAnswer
-    ensures { λ r. ⌜ record { answer = r; sector = now (bytes .exit) } ≡ readOf (tagOf (s .layout .width)) s (now (v .entry)) (now (st .entry)) sector (now (bytes .entry)) ⌝ }
+    ensures { λ r. ⌜ record { answer = readAnswer r; sector = now (bytes .exit) } ≡ readOf tagOf s (now (v .entry)) (now (st .entry)) sector (now (bytes .entry)) ⌝ }
 {
     if !state::state_ok(s) {
         return ReadAnswer::Refused(Refusal::Malformed);
