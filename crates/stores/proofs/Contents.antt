@@ -10,13 +10,18 @@ use Rattle.octets.specs.Numbers.{le}
 use Rattle.octets.specs.Parts.{part, patch}
 use Rattle.octets.specs.Sectors.{sectorAt}
 use Rattle.octets.proofs.Numbers.{length-le}
-use Rattle.octets.proofs.Parts.{length-part, part-all, patch-all, patch-join}
+use Rattle.octets.proofs.Parts.{length-part, part-all, part-patch-same, patch-all, patch-join}
 use Rattle.model.specs.declared.Layout.{Layout}
-use Rattle.model.specs.Layout.{dataAt, tagByte, tagSector, tagOffset, layoutOk}
-use Rattle.model.specs.Section.{Entry}
+use Rattle.model.specs.Layout.{entryCount, sectionSize, dataAt, tagByte, tagSector, tagOffset, needed, layoutOk}
+use Rattle.model.specs.Section.{Entry, entryOf}
 use Rattle.model.specs.Journal.{sealed}
 use Rattle.model.specs.Store.{homeStore}
-use Rattle.model.proofs.Addresses.{ranged, tag-sector}
+use Rattle.model.specs.Tag.{tagOf}
+use Rattle.model.proofs.Addresses.{ranged, data-room, tag-room, tag-inside, tag-sector}
+use Rattle.model.proofs.Homes.{tag-store}
+use Rattle.model.proofs.Sections.{bytes-length, tag-length}
+use Rattle.layout.proofs.Sizes.{width-high}
+use Rattle.stores.specs.Changes.{Changes}
 
 -- a sector of the section, filled from its front and then from its id on
 module _ (g : Layout) (st out : List ℕ) (j id : ℕ) (room : (j + 1) * 512 ≤ length st) (size : length out ≡ 512) where
@@ -59,4 +64,47 @@ module _ (g : Layout) (v : List ℕ) (e : Entry) (n : ℕ) (en : n ≡ e .sector
       rw (← z) (λ i. record {
         at = (ea ∙ ap (tagSector g) en) i;
         content = (ec ∙ (λ k. patch (sectorAt v (tagSector g (en k))) (tagOffset g (en k)) (et k))) i;
+      })
+
+-- the bytes that these stores change
+module _ (g : Layout) (ok : layoutOk g ≡ true) (sec : List ℕ) (size : length sec ≡ sectionSize (g .width) * 512) (i : ℕ) (l : i < entryCount (g .width))
+    (n : ℕ) (en : n ≡ entryOf (g .width) sec i .sector) (low : n < g .provided) (h : ℕ) (c v : List ℕ) (room : needed g * 512 ≤ length v) where
+  abbrev e : Entry
+  e = entryOf (g .width) sec i
+
+  whole : length (e .bytes) ≡ 512
+  whole = bytes-length (g .width) i (width-high g ok) l sec size
+
+  sized : length (e .tag) ≡ g .width
+  sized = tag-length (g .width) i (width-high g ok) l sec size
+
+  pub data-changed : 0 ≡ h → (a : ℕ) → a ≡ dataAt g n → c ≡ e .bytes → Changes v (homeStore g v e h) (record { byte = a * 512; size = 512 }) c
+  data-changed z a ea ec =
+      let there : a ≡ dataAt g (e .sector) = ea ∙ ap (dataAt g) en in
+      let front : part c 0 512 ≡ e .bytes = part-all c 512 (ap length ec ∙ whole) ∙ ec in
+      rw (← z)
+      (record {
+        sector = div-mul a ∙ there;
+        fits = omega arith;
+        inside = omega (arith, ea, data-room g (ranged g ok) n low);
+        stored = λ k. patch v (there k * 512) (front k);
+      })
+    where
+      div-mul : (a : ℕ) → a * 512 / 512 ≡ a
+      div-mul a = omega arith
+
+  pub tag-changed : 1 ≡ h → (b : ℕ) → b ≡ tagByte g n → (t out : List ℕ) → t ≡ e .tag → length out ≡ 512 → c ≡ patch out 0 (part t 0 (g .width))
+      → Changes v (homeStore g v e h) (record { byte = b; size = g .width }) c
+  tag-changed z b eb t out et full ec =
+      let there : b ≡ tagByte g (e .sector) = eb ∙ ap (tagByte g) en in
+      let small : g .width ≤ 32 = width-high g ok in
+      let tag : part t 0 (g .width) ≡ e .tag = part-all t (g .width) (ap length et ∙ sized) ∙ et in
+      let front : part c 0 (g .width) ≡ e .tag =
+      ap (λ (x : List ℕ). part x 0 (g .width)) (ec ∙ ap (patch out 0) tag) ∙ part-patch-same out 0 (e .tag) (omega (arith, sized)) (g .width) (sym sized) in
+      rw (← z)
+      (record {
+        sector = tag-sector-at g ok n b eb ∙ ap (tagSector g) en;
+        fits = omega arith;
+        inside = omega (arith, eb, tag-room g (ranged g ok) n low, tag-inside g (ranged g ok) n, tag-sector g (ranged g ok) n);
+        stored = (λ k. patch v (there k) (front k)) ∙ sym (tag-store g (ranged g ok) (tagOf (g .width)) v room e (omega (arith, en)) whole sized);
       })

@@ -3,6 +3,8 @@
 //
 // These are functions for the crates of this repository, which test the state, the loans and the entry's sector first: so each has a `requires`, and
 // every caller shows it.
+pub mod changes;
+
 use layout::SECTOR_SIZE;
 use model::Layout;
 use model::State;

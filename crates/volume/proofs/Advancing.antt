@@ -1,5 +1,5 @@
 -- Advance: one step more, and the steps of a recovery on one scan.
-use Prim.Native.Nat.{ℕ, zero, suc, _+_, _-_, _*_, _%_, _≤_, _<_}
+use Prim.Native.Nat.{ℕ, zero, suc, _+_, _-_, _*_, _/_, _%_, _≤_, _<_}
 use mathlib.Core.Bool.{Bool, true, false, not, _&&_, _||_}
 use mathlib.Core.List.{List}
 use mathlib.Core.Logic.{_≢_}
@@ -10,7 +10,7 @@ use lib.Dec.{leb, ltb, eqb}
 use lib.ListN.{length}
 use borrow.Author.Tests.{lt-ltb}
 use Rattle.octets.specs.Choice.{pick}
-use Rattle.octets.specs.Sectors.{putSector}
+use Rattle.octets.specs.Parts.{part, patch}
 use Rattle.octets.proofs.Parts.{length-part}
 use Rattle.model.specs.declared.Advanced.{Advanced}
 use Rattle.model.specs.declared.Layout.{Layout}
@@ -38,10 +38,12 @@ use Rattle.section.specs.Locations.{Locates}
 use Rattle.journal.specs.Replay.{idsOf, locationAt}
 use Rattle.journal.proofs.Walks.{located, located-low, is-there, replay-high, ids-kept, location-kept}
 use Rattle.layout.proofs.Sizes.{width-high, section-inside}
+use Rattle.stores.specs.declared.changes.Part.{Part}
+use Rattle.stores.specs.Changes.{Changes}
 use Rattle.volume_step.specs.Results.{Leaves, recovered}
 use Rattle.volume.specs.Results.{advanced, stepAdded}
 use Rattle.model.proofs.States.{state-layout, fit-room, volume-below}
-use Rattle.volume_step.proofs.Making.{home-room, home-put, place-made}
+use Rattle.volume_step.proofs.Making.{place-made}
 
 -- ---- one step more
 
@@ -237,17 +239,17 @@ module _ {b : Advanced} {v₀ : List ℕ} {k : ℕ} {ids : List ℕ} {i at : ℕ
     fits-here : volumeOk here v ≡ true
     fits-here = volume-below here v (u .fit) (k + i) refl (there .0)
 
-    module _ (sector : ℕ) (es : sector ≡ at-hand .sector) (below : sector < g .provided) (at′ : ℕ) (content : List ℕ)
-        (is : record { at = at′; content = content } ≡ homeStore g v at-hand (x .store)) where
+    module _ (sector : ℕ) (es : sector ≡ at-hand .sector) (below : sector < g .provided) (p : Part) (content : List ℕ)
+        (changes : Changes v (homeStore g v at-hand (x .store)) p content) where
       below-here : at-hand .sector < g .provided
       below-here = omega (arith, es)
 
-      pub store-inside : (at′ + 1) * 512 ≤ length v
-      store-inside = home-room g ok v (ok-here .1) at-hand below-here (x .store) at′ content is
+      abbrev at′ : ℕ
+      at′ = p .byte / 512
 
-      module _ (v′ : List ℕ) (put : v′ ≡ putSector v at′ content) where
+      module _ (v′ : List ℕ) (put : v′ ≡ patch v (p .byte) (part content 0 (p .size))) where
         home : (at′ ≡ homeStore g v at-hand (x .store) .at) × (v′ ≡ made v (homeStore g v at-hand (x .store)))
-        home = home-put g ok v (ok-here .1) at-hand below-here (x .store) at′ content is v′ put
+        home = (changes .sector, put ∙ changes .stored)
 
         sized-same : length v ≡ length v′
         sized-same = length-same g ok v (ok-here .1) x l (there .1 .entry) half below-here v′ (home .1)

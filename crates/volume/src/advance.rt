@@ -134,9 +134,10 @@ fn replay_from(
         if g.provided as u64 <= sector {
             break;
         }
-        at = recovery::replayed_store(v, g, x, sector as usize, content);
+        let p = recovery::replayed_part(v, g, x, sector as usize, content);
         let next = sections::next_location(ids, v, g, x);
-        store::put(v, at, content);
+        store::put_part(v, p.byte, content, p.size);
+        at = p.byte / SECTOR_SIZE;
         x = next;
         i += 1;
     }

@@ -1,5 +1,5 @@
 -- The store of a step, made: the answer names its sector, which lies in the volume.
-use Prim.Native.Nat.{ℕ, zero, suc, _+_, _*_, _≤_, _<_}
+use Prim.Native.Nat.{ℕ, _+_, _*_, _≤_, _<_}
 use mathlib.Core.Bool.{Bool, true, false}
 use mathlib.Core.List.{List, []}
 use mathlib.Core.Path.{_≡_, sym, ap, _∙_, subst}
@@ -17,14 +17,12 @@ use Rattle.model.specs.declared.State.{State}
 use Rattle.model.specs.declared.StepAnswer.{StepAnswer}
 use Rattle.model.specs.declared.StepAnswer.the-variants as answers
 use Rattle.model.specs.declared.Stepped.{Stepped}
-use Rattle.model.specs.Layout.{needed, layoutOk}
-use Rattle.model.specs.Section.{Entry, entryOf}
+use Rattle.model.specs.Section.{entryOf}
 use Rattle.model.specs.Journal.{sectionOf, replay}
 use Rattle.model.specs.Store.{Store, Effect, none, one, made, contentOf, homeStore, storesOf}
 use Rattle.model.specs.State.{stateOk, volumeOk, stagingOk}
 use Rattle.model.specs.Step.{StepResult, placeAt, stepOf}
 use Rattle.model.specs.NextStore.{nextStoreOf, storeNamed, Within, sectorNamed, sectorStored, StepStores}
-use Rattle.model.proofs.Addresses.{ranged, data-room, tag-room}
 use Rattle.model.proofs.NextStore.{step-stores}
 use Rattle.section.specs.declared.Location.{Location}
 use Rattle.section.specs.Locations.{Locates}
@@ -42,20 +40,6 @@ module _ (v : List ℕ) (a : StepAnswer) (d : Done) (w : Says) (at : ℕ) (ea : 
 
   pub stored-at : (c r : List ℕ) → r ≡ putSector v at c → r ≡ storeNamed v a c
   stored-at c r e = e ∙ ap (λ (x : StepAnswer). storeNamed v x c) (sym names)
-
--- ---- a store that brings an entry home
-
-module _ (g : Layout) (ok : layoutOk g ≡ true) (v : List ℕ) (room : needed g * 512 ≤ length v) (e : Entry) (low : e .sector < g .provided) where
-  home-inside : (h : ℕ) → (homeStore g v e h .at + 1) * 512 ≤ length v
-  home-inside zero = omega (arith, data-room g (ranged g ok) (e .sector) low)
-  home-inside (suc h) = omega (arith, tag-room g (ranged g ok) (e .sector) low)
-
-  module _ (h at : ℕ) (c : List ℕ) (is : record { at = at; content = c } ≡ homeStore g v e h) where
-    pub home-room : (at + 1) * 512 ≤ length v
-    home-room = omega (arith, home-inside h, ap (λ (x : Store). x .at) is)
-
-    pub home-put : (v′ : List ℕ) → v′ ≡ putSector v at c → (at ≡ homeStore g v e h .at) × (v′ ≡ made v (homeStore g v e h))
-    home-put v′ q = (ap (λ (x : Store). x .at) is, q ∙ ap (made v) is)
 
 -- ---- the store of a step, told and then made
 

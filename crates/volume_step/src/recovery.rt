@@ -9,6 +9,8 @@ use model::Refusal;
 use model::State;
 use model::Stepped;
 use section::Location;
+use stores::changes;
+use stores::changes::Part;
 ghost use mathlib.Core.Bool.{true};
 ghost use mathlib.Core.List.{List};
 ghost use mathlib.Core.Path.{_≡_};
@@ -22,6 +24,7 @@ ghost use Rattle.model.specs.Store.{homeStore, storesOf};
 ghost use Rattle.model.specs.State.{stateOk, volumeOk, stagingOk};
 ghost use Rattle.model.specs.Step.{placeAt, stepOf};
 ghost use Rattle.section.specs.Locations.{Locates};
+ghost use Rattle.stores.specs.Changes.{Changes};
 ghost use Rattle.volume_step.specs.Results.{recovered, Fills};
 
 // The logical sector of the entry that x names.
@@ -64,17 +67,18 @@ pub(crate) fn next_store(
     replayed(s, at, k + 1, more)
 }
 
-// The store that x names, of an entry of the logical sector `sector`: its content goes to `content`. Gives the sector that is to hold it.
-pub fn replayed_store(
+// The bytes of the volume that the store which x names changes, of an entry of the logical sector `sector`: they go to the front of `content`. To store
+// them leaves the volume that the store does, and moves a tag alone where that moves the sector with it.
+pub fn replayed_part(
     v: &[u8],
     g: Layout,
     x: Location,
     sector: usize,
     content: &mut [u8; SECTOR_SIZE],
-) -> usize
+) -> Part
     requires { ⌜ (layoutOk g ≡ true) × (needed g * 512 ≤ length (now v)) × (x .section < g .sections) × (x .entry < entryCount (g .width)) × (sector ≡ entryOf (g .width) (sectionOf g (now v) (x .section)) (x .entry) .sector) × (sector < g .provided) × (x .store < 2) ⌝ }
-    ensures { λ r. ⌜ record { at = r; content = now (content .exit) } ≡ homeStore g (now (v .entry)) (entryOf (g .width) (sectionOf g (now (v .entry)) (x .section)) (x .entry)) (x .store) ⌝ }
+    ensures { λ r. ⌜ Changes (now (v .entry)) (homeStore g (now (v .entry)) (entryOf (g .width) (sectionOf g (now (v .entry)) (x .section)) (x .entry)) (x .store)) r (now (content .exit)) ⌝ }
 {
     let section = sections::section_of(v, g, x.section);
-    stores::home_store(v, g, section, x.entry, sector, x.store, content)
+    changes::home_part(g, section, x.entry, sector, x.store, content)
 }

@@ -1,11 +1,11 @@
 use Prim.Native.Nat.{_+_, _-_, _^_, _≤_, _<_}
-use mathlib.Core.Path.{_≡_, refl, ap}
+use mathlib.Core.Path.{_≡_, refl, ap, _∙_}
 use native.Mathlib.Omega.{arith}
 use lib.ListN.{length}
 use borrow.Author.Needs.{needs}
 use Rattle.model.specs.declared.Advanced.{Advanced}
 use Rattle.model.proofs.States.{state-layout, fit-room}
-use Rattle.volume.proofs.Advancing.{Underway, begins, ok-here, continues, is-next, there, low, half, store-inside, again, nothing-made, steps-made}
+use Rattle.volume.proofs.Advancing.{Underway, begins, ok-here, continues, is-next, there, low, half, again, nothing-made, steps-made}
 use Rattle.volume.proofs.advance.replay_from.Statement.{statement}
 use Rattle.volume.proofs.advance.replay_from.Tie as tie
 
@@ -33,8 +33,8 @@ sector-of-requires c κs =
     let l = is-next u (c .before .if1 .left) in
     (ok-here u .0, ok-here u .1, l, there u l .1 .entry)
 
-replayed-store-requires : tie.Need-replayed-store-requires Inv-loop μ-loop
-replayed-store-requires c κs =
+replayed-part-requires : tie.Need-replayed-part-requires Inv-loop μ-loop
+replayed-part-requires c κs =
     let u = c .before .before .before .before .before .before .before .before .before .loop .inv .3 in
     let l = is-next u (c .before .before .before .before .before .if1 .left) in
     (ok-here u .0, ok-here u .1, l, there u l .1 .entry, c .before .before .before .sector-of .ensures, c .before .before .if2 .left, half u l)
@@ -44,25 +44,26 @@ next-location-requires c κs =
     let u = c .before .before .before .before .before .before .before .before .before .before .before .loop .inv .3 in
     continues u (is-next u (c .before .before .before .before .before .before .before .if1 .left))
 
-put-requires : tie.Need-put-requires Inv-loop μ-loop
-put-requires c κs =
-    let u = c .before .before .before .before .before .before .before .before .before .before .before .before .before .before .loop .inv .3 in
-    store-inside u (is-next u (c .before .before .before .before .before .before .before .before .before .before .if1 .left)) (c .before .before .before .before .before .before .before .before .sector-of .result) (c .before .before .before .before .before .before .before .before .sector-of .ensures) (c .before .before .before .before .before .before .before .if2 .left) (c .before .before .before .before .replayed-store .result) _ (c .before .before .before .before .replayed-store .ensures)
+put-part-requires : tie.Need-put-part-requires Inv-loop μ-loop
+put-part-requires c κs =
+    let filled = c .before .before .before .before .before .replayed-part in
+    (omega (arith, filled .ensures .inside), omega (arith, filled .ensures .fits))
 
 add-i : tie.Need-add-i Inv-loop μ-loop
 add-i c =
-    let u = c .before .before .before .before .before .before .before .before .before .before .before .before .before .before .before .before .before .loop .inv .3 in
-    record { fits = omega (arith, low u (is-next u (c .before .before .before .before .before .before .before .before .before .before .before .before .before .if1 .left))) }
+    let u = c .before .before .before .before .before .before .before .before .before .before .before .before .before .before .before .before .before .before .before .loop .inv .3 in
+    record { fits = omega (arith, low u (is-next u (c .before .before .before .before .before .before .before .before .before .before .before .before .before .before .before .if1 .left))) }
 
 loop-again : tie.Need-loop-again Inv-loop μ-loop
 loop-again c =
-    let u = c .before .before .before .before .before .before .before .before .before .before .before .before .before .before .before .before .before .loop .inv .3 in
-    let l = is-next u (c .before .before .before .before .before .before .before .before .before .before .before .before .before .if1 .left) in (
-      omega (arith, c .before .before .before .before .before .before .before .before .before .before .before .before .before .before .before .before .loop-test .taken),
-      search needs,
+    let u = c .before .before .before .before .before .before .before .before .before .before .before .before .before .before .before .before .before .before .before .loop .inv .3 in
+    let l = is-next u (c .before .before .before .before .before .before .before .before .before .before .before .before .before .before .before .if1 .left) in
+    let filled = c .before .before .before .before .before .before .before .before .before .replayed-part in (
+      omega (arith, c .before .before .before .before .before .before .before .before .before .before .before .before .before .before .before .before .before .before .loop-test .taken),
+      c .before .before .before .put-part .kept .0 ∙ c .before .before .before .before .before .before .before .before .before .before .before .before .before .before .before .before .before .before .before .loop .inv .1,
       omega (arith, low u l),
-      again u l (c .before .before .before .before .before .before .before .before .before .before .before .sector-of .result) (c .before .before .before .before .before .before .before .before .before .before .before .sector-of .ensures) (c .before .before .before .before .before .before .before .before .before .before .if2 .left) (c .before .before .before .before .before .before .before .replayed-store .result) _ (c .before .before .before .before .before .before .before .replayed-store .ensures) _ (c .before .before .put .ensures)
-          (c .before .before .before .before .before .next-location .result) (c .before .before .before .before .before .next-location .ensures),
+      again u l (c .before .before .before .before .before .before .before .before .before .before .before .before .before .sector-of .result) (c .before .before .before .before .before .before .before .before .before .before .before .before .before .sector-of .ensures) (c .before .before .before .before .before .before .before .before .before .before .before .before .if2 .left) (filled .result) _ (filled .ensures) _ (c .before .before .before .put-part .ensures)
+          (c .before .before .before .before .before .before .before .next-location .result) (c .before .before .before .before .before .before .before .next-location .ensures),
     )
 
 returns : tie.Need-returns Inv-loop μ-loop
@@ -87,9 +88,9 @@ replay-from-spec =
     locate-requires
     loop-holds
     sector-of-requires
-    replayed-store-requires
+    replayed-part-requires
     next-location-requires
-    put-requires
+    put-part-requires
     add-i
     (λ c. search needs)
     loop-again

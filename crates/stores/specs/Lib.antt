@@ -1,0 +1,2 @@
+-- What the code hands back, beside the model's stores.
+pub mod Changes

@@ -1,0 +1,47 @@
+// The bytes that a store changes: of a data sector all, of a sector with tags one tag. To store them alone leaves the same volume, and moves less. For the
+// crates of this repository, as the stores themselves.
+use layout::SECTOR_SIZE;
+use model::Layout;
+ghost use mathlib.Core.Bool.{true};
+ghost use mathlib.Core.List.{List};
+ghost use mathlib.Core.Path.{_≡_};
+ghost use Prim.Native.Nat.{ℕ, _*_, _≤_, _<_};
+ghost use lib.ListN.{length};
+ghost use Rattle.model.specs.Layout.{entryCount, sectionSize, needed, layoutOk};
+ghost use Rattle.model.specs.Section.{entryOf};
+ghost use Rattle.model.specs.Store.{homeStore};
+ghost use Rattle.stores.specs.Changes.{Changes};
+
+// So many bytes of the volume, from its byte `byte` on. They lie in one sector.
+pub struct Part {
+    pub byte: usize,
+    pub size: usize,
+}
+
+// Fills the front of `out`, which is as long as a sector, with the bytes that store h changes, of those that bring entry i of a section home, and gives
+// where they lie. It stores nothing.
+pub fn home_part(
+    g: Layout,
+    section: &[u8],
+    i: usize,
+    sector: usize,
+    h: usize,
+    out: &mut [u8],
+) -> Part
+    requires { ⌜ (layoutOk g ≡ true) × (length (now section) ≡ sectionSize (g .width) * 512) × (i < entryCount (g .width)) × (sector ≡ entryOf (g .width) (now section) i .sector) × (sector < g .provided) × (h < 2) × (length (now out) ≡ 512) ⌝ }
+    ensures { λ r. ⌜ ((v : List ℕ) → needed g * 512 ≤ length v → Changes v (homeStore g v (entryOf (g .width) (now (section .entry)) i) h) r (now (out .exit))) ⌝ }
+{
+    if h == 0 {
+        section::entry_data(section, g.width, i, out);
+        return Part {
+            byte: layout::data_at(g, sector) * SECTOR_SIZE,
+            size: SECTOR_SIZE,
+        };
+    }
+    let tag = section::entry_tag(section, g.width, i);
+    octets::copy_at(out, 0, tag, 0, g.width);
+    Part {
+        byte: layout::tag_byte(g, sector),
+        size: g.width,
+    }
+}
