@@ -18,6 +18,7 @@ use Rattle.model.specs.declared.Phase.{Phase}
 use Rattle.model.specs.declared.Phase.the-variants.{Recovering}
 use Rattle.model.specs.declared.State.{State}
 use Rattle.model.specs.declared.Stepped.{Stepped}
+use Rattle.model.specs.Refusal.{stepAnswer}
 use Rattle.model.specs.Layout.{mostSectors, entryCount, sectionSize, sectionAt, needed, layoutOk}
 use Rattle.model.specs.Section.{Entry, entryOf}
 use Rattle.model.specs.Journal.{sectionOf, replay}
@@ -47,7 +48,7 @@ use Rattle.volume_step.proofs.Making.{place-made}
 
 -- ---- one step more
 
-pub counted : (last : Advanced) (x : Stepped) (n : ℕ) (said : Bool) → n ≡ storesIn (x .answer) → said ≡ stepAcknowledges (x .answer)
+pub counted : (last : Advanced) (x : Stepped) (n : ℕ) (said : Bool) → n ≡ storesIn (stepAnswer (x .answer)) → said ≡ stepAcknowledges (stepAnswer (x .answer))
     → record { answer = x .answer; stores = last .stores + n; acknowledged = said || last .acknowledged; state = x .state } ≡ stepAdded last x
 counted last x n said en es =
     λ i. record { answer = x .answer; stores = last .stores + en i; acknowledged = (either said (last .acknowledged) ∙ ap (λ (b : Bool). pick b true (last .acknowledged)) es) i; state = x .state }
@@ -73,7 +74,14 @@ module _ (last next : Advanced) (x : Stepped) (e : next ≡ stepAdded last x) (v
   added : advanced next v′ st′ ≡ oneMore (advanced last v st)
   added =
       ap (λ (a : Advanced). advanced a v′ st′) e
-      ∙ (λ i. advanced (stepAdded last (left .returned i)) (left .volume i) (left .staging i))
+      ∙ (λ i. record {
+        answer = left .answer i;
+        stores = last .stores + storesIn (left .answer i);
+        acknowledged = pick (stepAcknowledges (left .answer i)) true (last .acknowledged);
+        state = left .state i;
+        volume = left .volume i;
+        staging = left .staging i;
+      })
 
   module _ (b : AdvanceResult) (i : ℕ) (h : advanced last v st ≡ advanceFrom i b) where
     reached : advanced next v′ st′ ≡ oneMore (advanceFrom i b)
@@ -84,12 +92,12 @@ module _ (last next : Advanced) (x : Stepped) (e : next ≡ stepAdded last x) (v
     made-more = reached ∙ ap (λ (n : ℕ). advanceFrom n b) (sym (add-one i))
 
     -- the step stored nothing: every further one would be the same
-    pub made-all : (n : ℕ) → i < n → storesIn (x .answer) ≡ 0 → advanced next v′ st′ ≡ advanceFrom n b
+    pub made-all : (n : ℕ) → i < n → storesIn (stepAnswer (x .answer)) ≡ 0 → advanced next v′ st′ ≡ advanceFrom n b
     made-all n l q =
         let m : ℕ = n - suc i in
         let count : i + suc m ≡ n = omega arith in
         let quiet : storesIn (oneMore (advanceFrom i b) .answer) ≡ 0 =
-        sym (ap (λ (a : AdvanceResult). storesIn (a .answer)) reached) ∙ ap (λ (a : Advanced). storesIn (a .answer)) e ∙ q in
+        sym (ap (λ (a : AdvanceResult). storesIn (a .answer)) reached) ∙ ap (λ (a : Advanced). storesIn (stepAnswer (a .answer))) e ∙ q in
         reached ∙ sym (all-same (advanceFrom i b) m quiet) ∙ advance-more b i (suc m) ∙ ap (λ (k : ℕ). advanceFrom k b) count
 
 -- ---- a store of a recovery

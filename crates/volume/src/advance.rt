@@ -22,6 +22,7 @@ ghost use lib.Dec.{leb};
 ghost use lib.ListN.{length};
 ghost use Rattle.model.specs.Layout.{needed};
 ghost use Rattle.model.specs.State.{volumeLoanOk, stateOk, stagingOk};
+ghost use Rattle.model.specs.Refusal.{stepAnswer};
 ghost use Rattle.model.specs.Advance.{storesIn, advanceFrom, advanceOf};
 ghost use Rattle.journal.specs.Replay.{idsOf};
 ghost use Rattle.volume.specs.Results.{advanced, stepAdded};
@@ -40,7 +41,7 @@ fn no_step(s: State) -> Advanced
 
 // How many sectors a step stored: one, or none.
 fn stores_in(a: StepAnswer) -> usize
-    ensures { λ r. ⌜ (r ≡ storesIn a) × (r ≤ 1) ⌝ }
+    ensures { λ r. ⌜ (r ≡ storesIn (stepAnswer a)) × (r ≤ 1) ⌝ }
 {
     match a {
         StepAnswer::Stepped(done, _) => match done {

@@ -90,7 +90,7 @@ valid-layout r b e = and-both (same b (superblockOf (layoutIn r b))) (layoutOk (
 
 pub superblock-rows : (g : Layout) (r : ℕ) (v : List ℕ) → NoneAnswers (superblockRows g r v) passed
 superblock-rows g r v =
-    let no = λ (x : Refusal ℕ). refused-not-taken x tt in
+    let no : (x : Refusal ℕ) → _≢_ {A = Verdict} (refused x) passed = λ x. refused-not-taken x tt in
     (no _, (no _, (no _, (no _, (no _, (no _, tt))))))
 
 module _ (g : Layout) (r : ℕ) (v : List ℕ) (a : Answer ℕ (Layout × ℕ)) (is : a ≡ queryWith g r v) where

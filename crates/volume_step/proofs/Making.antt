@@ -7,6 +7,7 @@ use native.Mathlib.Omega.{arith}
 use lib.Dec.{ltb}
 use lib.ListN.{length, getD}
 use borrow.Author.Tests.{eq-eqb}
+use Rattle.octets.specs.Answer.{Answer, taken, refused}
 use Rattle.octets.specs.Sectors.{putSector}
 use Rattle.model.specs.declared.Done.{Done}
 use Rattle.model.specs.declared.Done.the-variants.{Idle, Stored}
@@ -17,6 +18,7 @@ use Rattle.model.specs.declared.State.{State}
 use Rattle.model.specs.declared.StepAnswer.{StepAnswer}
 use Rattle.model.specs.declared.StepAnswer.the-variants as answers
 use Rattle.model.specs.declared.Stepped.{Stepped}
+use Rattle.model.specs.Refusal.{stepAnswer}
 use Rattle.model.specs.Section.{entryOf}
 use Rattle.model.specs.Journal.{sectionOf, replay}
 use Rattle.model.specs.Store.{Store, Effect, none, one, made, contentOf, homeStore, storesOf}
@@ -35,20 +37,20 @@ module _ (v : List ℕ) (a : StepAnswer) (d : Done) (w : Says) (at : ℕ) (ea : 
   names : a ≡ answers.Stepped (Stored at) w
   names = ea ∙ ap (λ (x : Done). answers.Stepped x w) ed
 
-  pub store-room : Inside v a → (at + 1) * 512 ≤ length v
-  store-room i = subst (Inside v) names i
+  pub store-room : Inside v (stepAnswer a) → (at + 1) * 512 ≤ length v
+  store-room i = subst (λ (x : StepAnswer). Inside v (stepAnswer x)) names i
 
-  pub stored-at : (c r : List ℕ) → r ≡ putSector v at c → r ≡ storeNamed v a c
-  stored-at c r e = e ∙ ap (λ (x : StepAnswer). storeNamed v x c) (sym names)
+  pub stored-at : (c r : List ℕ) → r ≡ putSector v at c → r ≡ storeNamed v (stepAnswer a) c
+  stored-at c r e = e ∙ ap (λ (x : StepAnswer). storeNamed v (stepAnswer x) c) (sym names)
 
 -- ---- the store of a step, told and then made
 
 -- a sector of the layout lies in the volume
-named-inside : (g : Layout) (v : List ℕ) (a : StepAnswer) (e : Effect) → sectorNamed a ≡ sectorStored e → Within g v e → Inside v a
-named-inside g v (answers.Stepped Idle x) e q w = tt
-named-inside g v (answers.Refused r) e q w = tt
-named-inside g v (answers.Stepped (Stored at) x) none q w = absurd (omega (arith, ap length q))
-named-inside g v (answers.Stepped (Stored at) x) (one y) q w =
+named-inside : (g : Layout) (v : List ℕ) (a : Answer ℕ (Done × Says)) (e : Effect) → sectorNamed a ≡ sectorStored e → Within g v e → Inside v a
+named-inside g v (taken (Idle, x)) e q w = tt
+named-inside g v (refused r) e q w = tt
+named-inside g v (taken (Stored at, x)) none q w = absurd (omega (arith, ap length q))
+named-inside g v (taken (Stored at, x)) (one y) q w =
     let same : at ≡ y .at = ap (λ (l : List ℕ). getD l 0 0) q in
     omega (arith, same, w .inside, w .lent)
 
@@ -59,22 +61,20 @@ module _ (s : State) (v st out : List ℕ) (size : length out ≡ 512) (o : Step
   told : nextStoreOf s v st out ≡ stepOf s v st
   told = store .told out (eq-eqb (length out) 512 size)
 
-  returned : o ≡ record { answer = stepOf s v st .answer; state = stepOf s v st .state }
-  returned = filled .returned ∙ ap (λ (x : StepResult). record { answer = x .answer; state = x .state }) told
+  answered : stepAnswer (o .answer) ≡ stepOf s v st .answer
+  answered = filled .answer ∙ ap (λ (x : StepResult). x .answer) told
 
-  answered : o .answer ≡ stepOf s v st .answer
-  answered = ap (λ (x : Stepped). x .answer) returned
-
-  pub inside-volume : Inside v (o .answer)
+  pub inside-volume : Inside v (stepAnswer (o .answer))
   inside-volume = subst (Inside v) (sym answered) (named-inside (s .layout) v (stepOf s v st .answer) (stepOf s v st .effect) (store .sector) (store .within))
 
   pub content-is : out′ ≡ contentOf out (stepOf s v st .effect)
   content-is = filled .content ∙ ap (λ (x : StepResult). contentOf out (x .effect)) told
 
-  pub leaves : (v′ : List ℕ) → v′ ≡ storeNamed v (o .answer) out′ → Leaves v (stepOf s v st) o v′ st′
+  pub leaves : (v′ : List ℕ) → v′ ≡ storeNamed v (stepAnswer (o .answer)) out′ → Leaves v (stepOf s v st) o v′ st′
   leaves v′ e =
       record {
-        returned = returned;
+        answer = answered;
+        state = filled .state ∙ ap (λ (x : StepResult). x .state) told;
         volume = e ∙ (λ i. storeNamed v (answered i) (content-is i)) ∙ store .made out;
         staging = filled .staging ∙ ap (λ (x : StepResult). x .staging) told;
       }
@@ -88,18 +88,18 @@ module _ (s : State) (v st : List ℕ) (sound : stateOk s ≡ true) (fits : volu
   home = homeStore (s .layout) v (entryOf (s .layout .width) (sectionOf (s .layout) v (x .section)) (x .entry)) (x .store)
 
   module _ (at : ℕ) (v′ : List ℕ) (made-home : (at ≡ home .at) × (v′ ≡ made v home)) (o : Stepped) where
-    stored-there : (more : Bool) → o ≡ recovered s at (k + 1) more → v′ ≡ storeNamed v (o .answer) (home .content)
+    stored-there : (more : Bool) → o ≡ recovered s at (k + 1) more → v′ ≡ storeNamed v (stepAnswer (o .answer)) (home .content)
     stored-there true e =
-        made-home .1 ∙ ap (λ (a : ℕ). putSector v a (home .content)) (sym (made-home .0)) ∙ ap (λ (y : Stepped). storeNamed v (y .answer) (home .content)) (sym e)
+        made-home .1 ∙ ap (λ (a : ℕ). putSector v a (home .content)) (sym (made-home .0)) ∙ ap (λ (y : Stepped). storeNamed v (stepAnswer (y .answer)) (home .content)) (sym e)
     stored-there false e =
-        made-home .1 ∙ ap (λ (a : ℕ). putSector v a (home .content)) (sym (made-home .0)) ∙ ap (λ (y : Stepped). storeNamed v (y .answer) (home .content)) (sym e)
+        made-home .1 ∙ ap (λ (a : ℕ). putSector v a (home .content)) (sym (made-home .0)) ∙ ap (λ (y : Stepped). storeNamed v (stepAnswer (y .answer)) (home .content)) (sym e)
 
     pub place-made : (more : Bool) → more ≡ ltb (k + 1) (storesOf (s .layout) (replay (s .layout) v)) → o ≡ recovered s at (k + 1) more → Leaves v (stepOf s v st) o v′ st
     place-made more q e =
         let filled = place-told s v st [] sound fits staging k phase x found n en low at (home .content) (λ i. record { at = made-home .0 i; content = home .content }) o more q e in
-        let answered : o .answer ≡ stepOf s v st .answer = ap (λ (y : Stepped). y .answer) (filled .returned) in
         record {
-          returned = filled .returned;
-          volume = stored-there more e ∙ (λ i. storeNamed v (answered i) (filled .content i)) ∙ step-stores s v st .made [];
+          answer = filled .answer;
+          state = filled .state;
+          volume = stored-there more e ∙ (λ i. storeNamed v (filled .answer i) (filled .content i)) ∙ step-stores s v st .made [];
           staging = filled .staging;
         }

@@ -8,6 +8,7 @@ use lib.Dec.{eqb, ltb}
 use lib.ListN.{length}
 use mathlib.Core.Logic.{_≢_}
 use borrow.Author.Tests.{ltb-true, ltb-false, eq-eqb, ne-eqb, lt-ltb, le-ltb, le-leb, lt-leb}
+use Rattle.octets.specs.Answer.{taken, refused}
 use Rattle.octets.specs.Choice.{firstMet}
 use Rattle.model.specs.declared.Done.the-variants.{Idle, Stored}
 use Rattle.model.specs.declared.Phase.{Phase}
@@ -19,11 +20,12 @@ use Rattle.model.specs.declared.Says.the-variants.{Nothing, Acknowledged, Filli
 use Rattle.model.specs.declared.State.{State}
 use Rattle.model.specs.declared.StepAnswer.the-variants as answers
 use Rattle.model.specs.declared.Stepped.{Stepped}
+use Rattle.model.specs.Refusal.{refusalOf, stepAnswer}
 use Rattle.model.specs.Layout.{sectionSize}
 use Rattle.model.specs.Section.{Entry, entryOf, emptySection}
 use Rattle.model.specs.Journal.{sectionOf, replay}
 use Rattle.model.specs.Store.{Store, one, homeCount, homeStore, Place, storesOf}
-use Rattle.model.specs.State.{passed, refused, stateOk, volumeOk, stagingOk}
+use Rattle.model.specs.State.{passed, stateOk, volumeOk, stagingOk}
 use Rattle.model.specs.Flush.{inPhase}
 use Rattle.model.specs.Step.{StepResult, placeAt, rangeRows, commitStore, commitStep, homeStep, writeBackStep, recoverPlace, phaseStep, stepBy, stepOf}
 use Rattle.model.specs.NextStore.{nextStoreOf}
@@ -35,14 +37,15 @@ use Rattle.model.proofs.States.{volume-replay}
 -- ---- a step that makes a store
 
 abbrev making : Store → Says → State → List ℕ → StepResult
-making x w s st = record { answer = answers.Stepped (Stored (x .at)) w; state = s; effect = one x; staging = st }
+making x w s st = record { answer = taken (Stored (x .at), w); state = s; effect = one x; staging = st }
 
 -- its sector and its content are those of the store x
 module _ (out : List ℕ) (at : ℕ) (out′ : List ℕ) (x : Store) (is : record { at = at; content = out′ } ≡ x) where
   fills : (w : Says) (s : State) (st : List ℕ) (o : Stepped) → o ≡ record { answer = answers.Stepped (Stored at) w; state = s } → Fills out (making x w s st) o out′ st
   fills w s st o e =
       record {
-        returned = e ∙ ap (λ (y : Store). record { answer = answers.Stepped (Stored (y .at)) w; state = s }) is;
+        answer = ap (λ (y : Stepped). stepAnswer (y .answer)) e ∙ ap (λ (y : Store). taken (Stored (y .at), w)) is;
+        state = ap (λ (y : Stepped). y .state) e;
         content = ap (λ (y : Store). y .content) is;
         staging = refl;
       }
@@ -79,8 +82,8 @@ module _ (s : State) (v st out : List ℕ) where
   abbrev Refuses : Stepped → Refusal → Type 0
   Refuses o r = o ≡ record { answer = answers.Refused r; state = s }
 
-  kept : (o : Stepped) (r : Refusal) → Refuses o r → Fills out (stepBy s v st (refused r)) o out st
-  kept o r e = record { returned = e; content = refl; staging = refl }
+  kept : (o : Stepped) (r : Refusal) → Refuses o r → Fills out (stepBy s v st (refused (refusalOf r))) o out st
+  kept o r e = record { answer = ap (λ (y : Stepped). stepAnswer (y .answer)) e; state = ap (λ (y : Stepped). y .state) e; content = refl; staging = refl }
 
   -- the loan for the content
   pub wrong-loan : length out ≢ 512 → (o : Stepped) → Refuses o Malformed → Fills out (nextStoreOf s v st out) o out st
@@ -108,7 +111,7 @@ module _ (s : State) (v st out : List ℕ) where
       neither false = refl
 
   module _ (sound : stateOk s ≡ true) (fits : volumeOk s v ≡ true) (staging : stagingOk (s .layout) st ≡ true) where
-    out-of-range : (p : Phase) → s .phase ≡ p → (r : Refusal) → firstMet (rangeRows s v st p) passed ≡ refused r → (o : Stepped) → Refuses o r
+    out-of-range : (p : Phase) → s .phase ≡ p → (r : Refusal) → firstMet (rangeRows s v st p) passed ≡ refused (refusalOf r) → (o : Stepped) → Refuses o r
         → Fills out (stepOf s v st) o out st
     out-of-range p q r u o e = subst (λ (x : StepResult). Fills out x o out st) (sym (in-phase s v st sound fits staging p q ∙ ap (stepBy s v st) u)) (kept o r e)
 
@@ -119,7 +122,7 @@ module _ (s : State) (v st out : List ℕ) where
         subst (λ (x : StepResult). Fills out x o out′ st′) (sym (in-phase s v st sound fits staging p q ∙ ap (stepBy s v st) u ∙ ap (phaseStep s v st) q)) e
 
     pub idles : s .phase ≡ phases.Filling → Fills out (stepOf s v st) (record { answer = answers.Stepped Idle Filling; state = s }) out st
-    idles q = runs phases.Filling q refl _ out st (record { returned = refl; content = refl; staging = refl })
+    idles q = runs phases.Filling q refl _ out st (record { answer = refl; state = refl; content = refl; staging = refl })
 
     -- ---- a store that brings an entry home
 

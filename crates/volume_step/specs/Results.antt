@@ -10,16 +10,19 @@ use mathlib.Core.Bool.{Bool}
 use mathlib.Core.List.{List}
 use mathlib.Core.Path.{_≡_}
 use lib.ListN.{length}
+use Rattle.octets.specs.Answer.{Answer, taken, refused}
 use Rattle.octets.specs.Choice.{pick}
 use Rattle.octets.specs.Sectors.{sectorSize}
+use Rattle.model.specs.Refusal.{stepAnswer}
 use Rattle.model.specs.Flush.{inPhase}
 use Rattle.model.specs.Store.{afterEffect, contentOf}
 use Rattle.model.specs.Step.{StepResult}
+use Rattle.model.specs.declared.Done.{Done}
 use Rattle.model.specs.declared.Done.the-variants.{Idle, Stored}
 use Rattle.model.specs.declared.Phase.the-variants as phases
+use Rattle.model.specs.declared.Says.{Says}
 use Rattle.model.specs.declared.Says.the-variants.{Nothing, Filling}
 use Rattle.model.specs.declared.State.{State}
-use Rattle.model.specs.declared.StepAnswer.{StepAnswer}
 use Rattle.model.specs.declared.StepAnswer.the-variants as answers
 use Rattle.model.specs.declared.Stepped.{Stepped}
 
@@ -30,16 +33,18 @@ recovered s at k more =
     (record { answer = answers.Stepped (Stored at) Filling; state = record { layout = s .layout; phase = phases.Filling; count = 0; id = s .id } })
 
 pub record Leaves (v : List ℕ) (o : StepResult) (r : Stepped) (v′ st′ : List ℕ) : Type 0 where
-  pub returned : r ≡ record { answer = o .answer; state = o .state }
+  pub answer : stepAnswer (r .answer) ≡ o .answer
+  pub state : r .state ≡ o .state
   pub volume : v′ ≡ afterEffect v (o .effect)
   pub staging : st′ ≡ o .staging
 
 pub record Fills (out : List ℕ) (o : StepResult) (r : Stepped) (out′ st′ : List ℕ) : Type 0 where
-  pub returned : r ≡ record { answer = o .answer; state = o .state }
+  pub answer : stepAnswer (r .answer) ≡ o .answer
+  pub state : r .state ≡ o .state
   pub content : out′ ≡ contentOf out (o .effect)
   pub staging : st′ ≡ o .staging
 
-abbrev pub Inside : List ℕ → StepAnswer → Type 0
-Inside v (answers.Stepped Idle x) = Unit {0}
-Inside v (answers.Stepped (Stored at) x) = (at + 1) * sectorSize ≤ length v
-Inside v (answers.Refused r) = Unit {0}
+abbrev pub Inside : List ℕ → Answer ℕ (Done × Says) → Type 0
+Inside v (taken (Idle, x)) = Unit {0}
+Inside v (taken (Stored at, x)) = (at + 1) * sectorSize ≤ length v
+Inside v (refused r) = Unit {0}

@@ -7,6 +7,7 @@ ghost use Prim.Native.Nat.{_+_, _*_, _≤_};
 ghost use lib.ListN.{length};
 ghost use Rattle.octets.specs.Parts.{part, patch};
 ghost use Rattle.octets.specs.Sectors.{putSector};
+ghost use Rattle.model.specs.Refusal.{stepAnswer};
 ghost use Rattle.model.specs.NextStore.{storeNamed};
 ghost use Rattle.volume_step.specs.Results.{Inside};
 
@@ -28,8 +29,8 @@ fn put(v: &mut [u8], at: usize, content: &[u8; SECTOR_SIZE])
 
 // Makes the store that a step's answer names.
 pub(crate) fn make(v: &mut [u8], answer: StepAnswer, content: &[u8; SECTOR_SIZE])
-    requires { ⌜ Inside (now v) answer ⌝ }
-    ensures { λ r. ⌜ now (v .exit) ≡ storeNamed (now (v .entry)) answer (now (content .entry)) ⌝ }
+    requires { ⌜ Inside (now v) (stepAnswer answer) ⌝ }
+    ensures { λ r. ⌜ now (v .exit) ≡ storeNamed (now (v .entry)) (stepAnswer answer) (now (content .entry)) ⌝ }
 {
     let StepAnswer::Stepped(done, _) = answer else {
         return;
