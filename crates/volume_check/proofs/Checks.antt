@@ -8,6 +8,7 @@ use native.Mathlib.Omega.{arith}
 use lib.Dec.{ltb}
 use lib.ListN.{length, getD, replicate, length-append, List·getD-append}
 use lib.Seq.{getD-at}
+use Rattle.octets.specs.Answer.{taken, refused, isTaken}
 use Rattle.octets.specs.Choice.{pick}
 use Rattle.model.specs.declared.Advanced.{Advanced}
 use Rattle.model.specs.declared.OpenAnswer.{OpenAnswer}
@@ -15,40 +16,38 @@ use Rattle.model.specs.declared.OpenAnswer.the-variants.{Opened, Refused}
 use Rattle.model.specs.declared.ReadAnswer.{ReadAnswer}
 use Rattle.model.specs.declared.Refusal.{Refusal}
 use Rattle.model.specs.declared.State.{State}
-use Rattle.model.specs.Superblock.{superblockAt, layoutIn}
+use Rattle.model.specs.Refusal.{refusalOf, openAnswer, readAnswer}
 use Rattle.model.specs.Tag.{tagOf}
 use Rattle.model.specs.Open.{openOf}
 use Rattle.model.specs.Advance.{advanceOf}
 use Rattle.model.specs.Read.{ReadResult, readOf}
-use Rattle.model.specs.World.{readTaken}
 use Rattle.volume.specs.Results.{advanced}
 use Rattle.volume_check.specs.Check.{recovered, recoverBy, recoverFrom, recoverOf, isBad, flagsOf}
-use Rattle.volume_check.specs.declared.RecoverAnswer.the-variants as recovering
 
 -- ---- a read of a sector
 
 pub read-says : (s : State) (v st : List ℕ) (n : ℕ) (a b : ReadAnswer) (x : List ℕ)
-    → record { answer = a; sector = x } ≡ readOf (tagOf (s .layout .width)) s v st n (replicate 512 0) → a ≡ b
-    → not (readTaken b) && ltb n (s .layout .provided) ≡ isBad s v st n
+    → record { answer = readAnswer a; sector = x } ≡ readOf tagOf s v st n (replicate 512 0) → a ≡ b
+    → not (isTaken (readAnswer b)) && ltb n (s .layout .provided) ≡ isBad s v st n
 unfolding isBad
 read-says s v st n a b x e q =
-    ap (λ (y : ReadAnswer). not (readTaken y) && ltb n (s .layout .provided)) (sym q)
-    ∙ ap (λ (o : ReadResult). not (readTaken (o .answer)) && ltb n (s .layout .provided)) e
+    ap (λ (y : ReadAnswer). not (isTaken (readAnswer y)) && ltb n (s .layout .provided)) (sym q)
+    ∙ ap (λ (o : ReadResult). not (isTaken (o .answer)) && ltb n (s .layout .provided)) e
 
 -- ---- open, and its steps
 
 module _ (r : ℕ) (v st : List ℕ) (a : OpenAnswer) (x : List ℕ)
-    (e : record { answer = a; staging = x } ≡ openOf (tagOf (layoutIn r (superblockAt r v) .width)) r v st) where
-  by-open : recoverBy v a x ≡ recoverOf r v st
+    (e : record { answer = openAnswer a; staging = x } ≡ openOf tagOf r v st) where
+  by-open : recoverBy v (openAnswer a) x ≡ recoverOf r v st
   unfolding recoverOf
   by-open = ap (recoverFrom v) e
 
   pub recovers : (s : State) (n : ℕ) → a ≡ Opened s n → (last : Advanced) (v′ st′ : List ℕ) → advanced last v′ st′ ≡ advanceOf n s v x
-      → record { answer = recovering.Recovered (last .state) n; volume = v′; staging = st′ } ≡ recoverOf r v st
-  recovers s n q last v′ st′ steps = ap (recovered n) steps ∙ ap (λ (b : OpenAnswer). recoverBy v b x) (sym q) ∙ by-open
+      → record { answer = taken (last .state, n); volume = v′; staging = st′ } ≡ recoverOf r v st
+  recovers s n q last v′ st′ steps = ap (recovered n) steps ∙ ap (λ (b : OpenAnswer). recoverBy v (openAnswer b) x) (sym q) ∙ by-open
 
-  pub refuses : (y : Refusal) → a ≡ Refused y → record { answer = recovering.Refused y; volume = v; staging = x } ≡ recoverOf r v st
-  refuses y q = ap (λ (b : OpenAnswer). recoverBy v b x) (sym q) ∙ by-open
+  pub refuses : (y : Refusal) → a ≡ Refused y → record { answer = refused (refusalOf y); volume = v; staging = x } ≡ recoverOf r v st
+  refuses y q = ap (λ (b : OpenAnswer). recoverBy v (openAnswer b) x) (sym q) ∙ by-open
 
 -- ---- flags
 

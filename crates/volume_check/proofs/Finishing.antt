@@ -2,6 +2,7 @@
 use Prim.Native.Nat.{ℕ, zero, suc, _+_, _*_, _≤_, _<_}
 use mathlib.Core.Bool.{Bool, true, false, not, _&&_}
 use mathlib.Core.List.{List, [], _∷_}
+use mathlib.Core.Logic.{_≢_}
 use mathlib.Core.Path.{_≡_, refl, sym, ap, _∙_, subst}
 use native.Mathlib.Decide.{ℕ-discrete}
 use native.Mathlib.Numerals.{add-one}
@@ -9,27 +10,26 @@ use native.Mathlib.Omega.{arith}
 use lib.Dec.{leb, ltb, eqb}
 use lib.ListN.{length, getD, replicate, length-replicate}
 use borrow.Author.Tests.{eq-eqb, ne-eqb, lt-ltb, le-leb, lt-leb, leb-false, ltb-false, not-false}
+use Rattle.octets.specs.Answer.{Refusal, taken, refused, refuse, isTaken}
+use Rattle.octets.proofs.Answers.{taken-same, refused-not-taken}
 use Rattle.octets.specs.Choice.{pick, firstMet, Unmet, NoneAnswers}
 use Rattle.octets.specs.Parts.{same}
 use Rattle.octets.specs.Sectors.{sectorAt}
 use Rattle.octets.proofs.Choice.{passes, unmet, met}
 use Rattle.model.specs.declared.Layout.{Layout}
-use Rattle.model.specs.declared.OpenAnswer.the-variants.{Opened}
 use Rattle.model.specs.declared.Phase.{Phase}
 use Rattle.model.specs.declared.Phase.the-variants.{Filling, Recovering}
-use Rattle.model.specs.declared.Refusal.the-variants.{JournalRange, JournalTagMismatch, TagMismatch}
 use Rattle.model.specs.declared.State.{State}
 use Rattle.model.specs.Layout.{entryCount, sectionSize, sectionAt, dataAt, needed, layoutOk}
 use Rattle.model.specs.Section.{emptySection}
 use Rattle.model.specs.Journal.{greatestId, sectionOf, Replayed, replay}
 use Rattle.model.specs.Superblock.{superblockAt, layoutIn}
 use Rattle.model.specs.Store.{made, homeCount, homeStore, Place, storeOf, plan, storesOf}
-use Rattle.model.specs.Tag.{Tag, tagOf, tagAt}
-use Rattle.model.specs.State.{Verdict, passed, refused, placeOk, replayOk, volumeLoanOk, stateOk, volumeOk, stagingOk, isFilling}
+use Rattle.model.specs.Tag.{Tag, Tags, tagOf, tagAt}
+use Rattle.model.specs.State.{Verdict, passed, placeOk, replayOk, volumeLoanOk, stateOk, volumeOk, stagingOk, isFilling}
 use Rattle.model.specs.Open.{openRows, entriesVerdict, phaseFor, openedState, OpenResult, openBy, openWith, openOf}
 use Rattle.model.specs.Step.{noPlace, placeAt, placeRow, StepResult, homeStep, recoverPlace, stepBy, stepOf}
 use Rattle.model.specs.Read.{ReadResult, readBy, readOf}
-use Rattle.model.specs.World.{readTaken}
 use Rattle.model.specs.Advance.{AdvanceResult, noStep, stepMade, oneMore, advanceFrom, advanceOf}
 use Rattle.model.proofs.Addresses.{Ranged, ranged}
 use Rattle.model.proofs.Homes.{home-length, home-sections}
@@ -39,11 +39,10 @@ use Rattle.model.proofs.Plans.{home-two}
 use Rattle.model.proofs.Entries.{Complete, replay-complete, PlaceOf, place-every}
 use Rattle.model.proofs.Sections.{per-pos, length-empty}
 use Rattle.layout.proofs.Sizes.{width-high}
-use Rattle.volume_open.proofs.Queries.{refusal-no-pass, valid-layout}
+use Rattle.volume_open.proofs.Queries.{valid-layout}
 use Rattle.volume_step.proofs.Steps.{in-phase}
 use Rattle.volume_check.specs.Check.{RecoverResult, recovered, recoverFrom, recoverOf, isBad}
 use Rattle.volume_check.specs.Finishes.{EndsAfter, Ends, BadMeansTag, Finished, Finishes}
-use Rattle.volume_check.specs.declared.RecoverAnswer.the-variants as recovering
 
 -- ---- entries to be replayed
 
@@ -59,10 +58,10 @@ entries-sound tag g (x ∷ xs) p e =
     go (entries-sound tag g xs (p .1)) (leb (g .provided) (x .entry .sector)) refl (not (same (x .entry .tag) (tag (x .entry .sector) (x .entry .bytes)))) e
   where
     go : (entriesVerdict tag g xs ≡ passed → Every (Sound g) xs) → (high : Bool) → leb (g .provided) (x .entry .sector) ≡ high → (wrong : Bool)
-        → pick high (refused (JournalRange (x .section) (x .place))) (pick wrong (refused (JournalTagMismatch (x .section) (x .place))) (entriesVerdict tag g xs)) ≡ passed
+        → pick high (refuse 6 (x .section ∷ x .place ∷ [])) (pick wrong (refuse 7 (x .section ∷ x .place ∷ [])) (entriesVerdict tag g xs)) ≡ passed
         → Every (Sound g) (x ∷ xs)
-    go ih true l w e = absurd (refusal-no-pass _ e)
-    go ih false l true e = absurd (refusal-no-pass _ e)
+    go ih true l w e = absurd (refused-not-taken _ tt e)
+    go ih false l true e = absurd (refused-not-taken _ tt e)
     go ih false l false e = (record { low = leb-false (g .provided) (x .entry .sector) l; complete = p .0 }, ih e)
 
 -- a place of the replay is the first or the second store of a sound entry
@@ -223,9 +222,9 @@ module _ (g : Layout) (ok : layoutOk g ≡ true) (v₀ : List ℕ) (loan : volum
     fits = same (tagAt g v i) (tagOf (g .width) i (sectorAt v (dataAt g i)))
 
     abbrev readWith : List ℕ → Bool → ReadResult
-    readWith b f = readBy (tagOf (g .width)) (inState Filling) v empty i b (pick (not f) (refused (TagMismatch i)) passed)
+    readWith b f = readBy tagOf (inState Filling) v empty i b (pick (not f) (refuse 7 (i ∷ [])) passed)
 
-    by-tag : (b : List ℕ) → length b ≡ 512 → readOf (tagOf (g .width)) (inState Filling) v empty i b ≡ readWith b fits
+    by-tag : (b : List ℕ) → length b ≡ 512 → readOf tagOf (inState Filling) v empty i b ≡ readWith b fits
     unfolding readOf
     by-tag b z =
         rw (state-ok Filling refl, volume-ok Filling v sized refl, staging-ok, eq-eqb (length b) 512 z, lt-leb (g .provided) i low)
@@ -233,13 +232,13 @@ module _ (g : Layout) (ok : layoutOk g ≡ true) (v₀ : List ℕ) (loan : volum
     bad-by-tag : isBad (inState Filling) v empty i ≡ not fits
     unfolding isBad
     bad-by-tag =
-        ap (λ (o : ReadResult). not (readTaken (o .answer)) && ltb i (g .provided)) (by-tag (replicate 512 0) (length-replicate {A = ℕ} 512 0))
-        ∙ ap (λ (b : Bool). not (readTaken (readWith (replicate 512 0) fits .answer)) && b) (lt-ltb i (g .provided) low)
-        ∙ taken fits
+        ap (λ (o : ReadResult). not (isTaken (o .answer)) && ltb i (g .provided)) (by-tag (replicate 512 0) (length-replicate {A = ℕ} 512 0))
+        ∙ ap (λ (b : Bool). not (isTaken (readWith (replicate 512 0) fits .answer)) && b) (lt-ltb i (g .provided) low)
+        ∙ by-test fits
       where
-        taken : (f : Bool) → not (readTaken (readWith (replicate 512 0) f .answer)) && true ≡ not f
-        taken true = refl
-        taken false = refl
+        by-test : (f : Bool) → not (isTaken (readWith (replicate 512 0) f .answer)) && true ≡ not f
+        by-test true = refl
+        by-test false = refl
 
   bad-left : BadMeansTag (left .state) (left .volume) (left .staging)
   bad-left =
@@ -256,24 +255,24 @@ rules-pass rows z none e =
     (u, sym (passes rows z u) ∙ e)
   where
     go : (w : Verdict) → firstMet rows passed ≡ w → firstMet rows passed ≡ passed
-    go passed q = q
-    go (refused x) q = absurd (refusal-no-pass x (sym (met rows (refused x) passed z (refusal-no-pass x) q) ∙ e))
+    go (taken y) q = q
+    go (refused x) q = absurd (refused-not-taken x tt (sym (met rows (refused x) passed z (refused-not-taken x tt) q) ∙ e))
 
 open-refuses : (g : Layout) (r : ℕ) (v st : List ℕ) → NoneAnswers (openRows g r v st) passed
 open-refuses g r v st =
-    let no = refusal-no-pass in
+    let no : (x : Refusal ℕ) → _≢_ {A = Verdict} (refused x) passed = λ x. refused-not-taken x tt in
     (no _, (no _, (no _, (no _, (no _, (no _, (no _, (no _, (no _, tt)))))))))
 
-module _ (tag : Tag) (r : ℕ) (v st : List ℕ) where
+module _ (tags : Tags) (r : ℕ) (v st : List ℕ) where
   abbrev g : Layout
   g = layoutIn r (superblockAt r v)
 
   abbrev verdict : Verdict
-  verdict = firstMet (openRows g r v st) (entriesVerdict tag g (replay g v))
+  verdict = firstMet (openRows g r v st) (entriesVerdict (tags (g .width)) g (replay g v))
 
-  module _ (taken : verdict ≡ passed) where
-    rows-passed : Unmet (openRows g r v st) × (entriesVerdict tag g (replay g v) ≡ passed)
-    rows-passed = rules-pass (openRows g r v st) (entriesVerdict tag g (replay g v)) (open-refuses g r v st) taken
+  module _ (passes-all : verdict ≡ passed) where
+    rows-passed : Unmet (openRows g r v st) × (entriesVerdict (tags (g .width)) g (replay g v) ≡ passed)
+    rows-passed = rules-pass (openRows g r v st) (entriesVerdict (tags (g .width)) g (replay g v)) (open-refuses g r v st) passes-all
 
     g-ok : layoutOk g ≡ true
     g-ok = valid-layout r (superblockAt r v) (not-false _ (rows-passed .0 .1 .1 .1 .1 .0))
@@ -285,11 +284,11 @@ module _ (tag : Tag) (r : ℕ) (v st : List ℕ) where
     v-room = ltb-false (length v) (needed g * 512) (rows-passed .0 .1 .1 .1 .1 .1 .0)
 
     v-entries : Every (Sound g) (replay g v)
-    v-entries = entries-sound tag g (replay g v) (replay-complete g (ranged g g-ok) v v-room) (rows-passed .1)
+    v-entries = entries-sound (tags (g .width)) g (replay g v) (replay-complete g (ranged g g-ok) v v-room) (rows-passed .1)
 
-    opens : openOf tag r v st ≡ openBy g v st passed
+    opens : openOf tags r v st ≡ openBy g v st passed
     unfolding openWith
-    opens = ap (openBy g v st) taken
+    opens = ap (openBy g v st) passes-all
 
     abbrev stores : ℕ
     stores = storesOf g (replay g v)
@@ -307,30 +306,30 @@ module _ (tag : Tag) (r : ℕ) (v st : List ℕ) where
     last-bad = bad-left g g-ok v v-loan v-room v-entries
 
   -- only an open that passed its rules answers so
-  opened-passed : (s : State) (n : ℕ) → openOf tag r v st .answer ≡ Opened s n → verdict ≡ passed
+  opened-passed : (s : State) (n : ℕ) → openOf tags r v st .answer ≡ taken (s, n) → verdict ≡ passed
   unfolding openWith
   opened-passed s n = go verdict
     where
-      go : (w : Verdict) → openBy g v st w .answer ≡ Opened s n → w ≡ passed
-      go passed e = refl
-      go (refused x) e = absurd (let z : _≡_ {A = ℕ} 0 1 = cc in omega arith)
+      go : (w : Verdict) → openBy g v st w .answer ≡ taken (s, n) → w ≡ passed
+      go (taken y) e = refl
+      go (refused x) e = absurd (refused-not-taken x (s, n) e)
 
-  recovered-passed : (s : State) (n : ℕ) → recoverFrom v (openOf tag r v st) .answer ≡ recovering.Recovered s n → verdict ≡ passed
+  recovered-passed : (s : State) (n : ℕ) → recoverFrom v (openOf tags r v st) .answer ≡ taken (s, n) → verdict ≡ passed
   unfolding openWith
   recovered-passed s n = go verdict
     where
-      go : (w : Verdict) → recoverFrom v (openBy g v st w) .answer ≡ recovering.Recovered s n → w ≡ passed
-      go passed e = refl
-      go (refused x) e = absurd (let z : _≡_ {A = ℕ} 0 1 = cc in omega arith)
+      go : (w : Verdict) → recoverFrom v (openBy g v st w) .answer ≡ taken (s, n) → w ≡ passed
+      go (taken y) e = refl
+      go (refused x) e = absurd (refused-not-taken x (s, n) e)
 
-  open-counts : (s : State) (n : ℕ) → openOf tag r v st .answer ≡ Opened s n
-      → (n ≡ 2 * length (replay (s .layout) v)) × EndsAfter n s v (openOf tag r v st .staging)
+  open-counts : (s : State) (n : ℕ) → openOf tags r v st .answer ≡ taken (s, n)
+      → (n ≡ 2 * length (replay (s .layout) v)) × EndsAfter n s v (openOf tags r v st .staging)
   open-counts s n e =
-      let taken : verdict ≡ passed = opened-passed s n e in
-      let a : Opened s n ≡ Opened (openedState g v) (storesOf g (replay g v)) = sym e ∙ ap (λ (o : OpenResult). o .answer) (opens taken) in
-      let es : s ≡ openedState g v = cc in
-      let en : n ≡ storesOf g (replay g v) = cc in
-      rw (es, en, opens taken) (stores-twice g (replay g v), open-ends taken)
+      let p : verdict ≡ passed = opened-passed s n e in
+      let a = taken-same (s, n) (openedState g v, storesOf g (replay g v)) (sym e ∙ ap (λ (o : OpenResult). o .answer) (opens p)) in
+      let es : s ≡ openedState g v = ap (λ (x : State × ℕ). x .0) a in
+      let en : n ≡ storesOf g (replay g v) = ap (λ (x : State × ℕ). x .1) a in
+      rw (es, en, opens p) (stores-twice g (replay g v), open-ends p)
 
 -- ---- the claims
 
@@ -340,14 +339,13 @@ ends = open-counts
 pub finishes : Finishes
 unfolding recoverOf
 finishes r v st s n e =
-    let tag : Tag = tagOf (layoutIn r (superblockAt r v) .width) in
-    let taken : verdict tag r v st ≡ passed = recovered-passed tag r v st s n e in
-    let o : AdvanceResult = last tag r v st taken in
-    let is : recoverOf r v st ≡ recovered (stores tag r v st taken) o = ap (recoverFrom v) (opens tag r v st taken) in
-    let a : recovering.Recovered s n ≡ recovering.Recovered (o .state) (stores tag r v st taken) = sym e ∙ ap (λ (x : RecoverResult). x .answer) is in
-    let es : s ≡ o .state = cc in
+    let p : verdict tagOf r v st ≡ passed = recovered-passed tagOf r v st s n e in
+    let o : AdvanceResult = last tagOf r v st p in
+    let is : recoverOf r v st ≡ recovered (stores tagOf r v st p) o = ap (recoverFrom v) (opens tagOf r v st p) in
+    let a = taken-same (s, n) (o .state, stores tagOf r v st p) (sym e ∙ ap (λ (x : RecoverResult). x .answer) is) in
+    let es : s ≡ o .state = ap (λ (x : State × ℕ). x .0) a in
     subst (Finished r v st) (sym es)
     (record {
-      filling = last-fills tag r v st taken;
-      bad = subst (λ (x : RecoverResult). BadMeansTag (o .state) (x .volume) (x .staging)) (sym is) (last-bad tag r v st taken);
+      filling = last-fills tagOf r v st p;
+      bad = subst (λ (x : RecoverResult). BadMeansTag (o .state) (x .volume) (x .staging)) (sym is) (last-bad tagOf r v st p);
     })

@@ -2,7 +2,7 @@
 -- entries", and "How tight each contract is": "the phase ends after exactly that many". The proofs are in proofs/Finishing.
 --
 -- EndsAfter n s v st  : from the state s, on the volume v with the staging st, n steps make a store each, and the volume is filling after the last of them
--- Ends                : that the number that an open reports is twice the used entries, and that many steps end the recovery; over any tag function
+-- Ends                : that the number that an open reports is twice the used entries, and that many steps end the recovery; over any family of tag functions
 -- BadMeansTag s v st  : a sector that the volume provides is bad exactly where its tag does not fit
 -- Finished r v st s   : what holds where the recovery of the volume v left the state s
 -- Finishes            : that it does, of every recovery
@@ -12,19 +12,18 @@ use mathlib.Core.List.{List}
 use mathlib.Core.Path.{_≡_}
 use lib.Dec.{eqb}
 use lib.ListN.{length}
+use Rattle.octets.specs.Answer.{taken}
 use Rattle.octets.specs.Parts.{same}
 use Rattle.octets.specs.Sectors.{sectorAt}
-use Rattle.model.specs.declared.OpenAnswer.the-variants.{Opened}
 use Rattle.model.specs.declared.Phase.the-variants.{Filling}
 use Rattle.model.specs.declared.State.{State}
 use Rattle.model.specs.Layout.{dataAt}
 use Rattle.model.specs.Journal.{replay}
-use Rattle.model.specs.Tag.{Tag, tagOf, tagAt}
+use Rattle.model.specs.Tag.{Tags, tagOf, tagAt}
 use Rattle.model.specs.State.{isFilling}
 use Rattle.model.specs.Open.{openOf}
 use Rattle.model.specs.Advance.{advanceOf}
 use Rattle.volume_check.specs.Check.{recoverOf, isBad}
-use Rattle.volume_check.specs.declared.RecoverAnswer.the-variants.{Recovered}
 
 -- after k of them k stores are made, and the volume is filling exactly where k is n
 abbrev pub EndsAfter : ℕ → State → List ℕ → List ℕ → Type 0
@@ -32,8 +31,8 @@ EndsAfter n s v st = (k : ℕ) → k ≤ n → (advanceOf k s v st .stores ≡ k
 
 abbrev pub Ends : Type 0
 Ends =
-    (tag : Tag) (r : ℕ) (v st : List ℕ) (s : State) (n : ℕ) → openOf tag r v st .answer ≡ Opened s n
-    → (n ≡ 2 * length (replay (s .layout) v)) × EndsAfter n s v (openOf tag r v st .staging)
+    (tags : Tags) (r : ℕ) (v st : List ℕ) (s : State) (n : ℕ) → openOf tags r v st .answer ≡ taken (s, n)
+    → (n ≡ 2 * length (replay (s .layout) v)) × EndsAfter n s v (openOf tags r v st .staging)
 
 abbrev pub BadMeansTag : State → List ℕ → List ℕ → Type 0
 BadMeansTag s v st =
@@ -45,4 +44,4 @@ pub record Finished (r : ℕ) (v st : List ℕ) (s : State) : Type 0 where
   pub bad : BadMeansTag s (recoverOf r v st .volume) (recoverOf r v st .staging)
 
 abbrev pub Finishes : Type 0
-Finishes = (r : ℕ) (v st : List ℕ) (s : State) (n : ℕ) → recoverOf r v st .answer ≡ Recovered s n → Finished r v st s
+Finishes = (r : ℕ) (v st : List ℕ) (s : State) (n : ℕ) → recoverOf r v st .answer ≡ taken (s, n) → Finished r v st s

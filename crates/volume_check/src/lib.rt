@@ -8,7 +8,7 @@ ghost use mathlib.Core.Path.{_≡_};
 ghost use Prim.Native.Nat.{_≤_};
 ghost use lib.ListN.{length};
 ghost use Rattle.octets.specs.Choice.{pick};
-ghost use Rattle.volume_check.specs.Check.{recoverOf, isBad, flagsOf, countOf};
+ghost use Rattle.volume_check.specs.Check.{recoverAnswer, recoverOf, isBad, flagsOf, countOf};
 
 pub enum RecoverAnswer {
     // The state, and how many stores were to come.
@@ -18,7 +18,7 @@ pub enum RecoverAnswer {
 
 // Opens a volume, and finishes its recovery.
 pub fn recover(v: &mut [u8], st: &mut [u8], r: usize) -> RecoverAnswer
-    ensures { λ a. ⌜ record { answer = a; volume = now (v .exit); staging = now (st .exit) } ≡ recoverOf r (now (v .entry)) (now (st .entry)) ⌝ }
+    ensures { λ a. ⌜ record { answer = recoverAnswer a; volume = now (v .exit); staging = now (st .exit) } ≡ recoverOf r (now (v .entry)) (now (st .entry)) ⌝ }
 {
     let answer = volume::open::open(v, st, r);
     match answer {
