@@ -7,24 +7,22 @@ use native.Mathlib.Omega.{arith}
 use lib.Dec.{ltb}
 use lib.ListN.{length, replicate, length-replicate}
 use borrow.Author.Tests.{le-ltb}
+use Rattle.octets.specs.Answer.{Answer, taken, isTaken}
 use Rattle.octets.specs.Choice.{pick}
-use Rattle.model.specs.declared.FormatAnswer.the-variants.{Formatted}
 use Rattle.model.specs.declared.Layout.{Layout}
-use Rattle.model.specs.declared.OpenAnswer.the-variants.{Opened}
 use Rattle.model.specs.declared.Phase.the-variants.{Filling}
-use Rattle.model.specs.declared.QueryAnswer.{QueryAnswer}
-use Rattle.model.specs.declared.ReadAnswer.{ReadAnswer}
 use Rattle.model.specs.declared.State.{State}
 use Rattle.model.specs.Layout.{sectionSize}
 use Rattle.model.specs.Section.{collect, emptySection}
 use Rattle.model.specs.Superblock.{superblockAt, layoutIn}
 use Rattle.model.specs.Tag.{tagOf}
+use Rattle.model.specs.State.{passed}
 use Rattle.model.specs.Format.{formatOf}
 use Rattle.model.specs.Open.{OpenResult, openOf}
 use Rattle.model.specs.Query.{queryOf}
 use Rattle.model.specs.Read.{ReadResult, readOf}
 use Rattle.model.specs.Advance.{advanceFrom}
-use Rattle.model.specs.World.{anOpen, begin, readTaken, openWorld, after}
+use Rattle.model.specs.World.{anOpen, begin, openWorld, after}
 use Rattle.model.specs.Guarantees.{OpensFresh}
 use Rattle.model.proofs.Demand3.{demand3-sha256, formatted-length, fresh-opens}
 use Rattle.model.proofs.Guarantees.{guaranteed-sha256}
@@ -49,9 +47,9 @@ module _ (bad : ℕ → Bool) where
 
 -- ---- a volume that format left
 
-module _ (g : Layout) (v : List ℕ) (e : formatOf (tagOf (g .width)) g v .answer ≡ Formatted) where
+module _ (g : Layout) (v : List ℕ) (e : formatOf tagOf g v .answer ≡ passed) where
   abbrev v₀ : List ℕ
-  v₀ = formatOf (tagOf (g .width)) g v .volume
+  v₀ = formatOf tagOf g v .volume
 
   abbrev st : List ℕ
   st = replicate (sectionSize (g .width) * 512) 0
@@ -62,17 +60,17 @@ module _ (g : Layout) (v : List ℕ) (e : formatOf (tagOf (g .width)) g v .answe
   abbrev s₀ : State
   s₀ = record { layout = g; phase = Filling; count = 0; id = 1 }
 
-  fresh : OpensFresh (tagOf (g .width)) g v₀
-  fresh = fresh-opens (tagOf (g .width)) g (formatted-length g v e) v e
+  fresh : OpensFresh tagOf g v₀
+  fresh = fresh-opens tagOf g (formatted-length g v e) v e
 
-  opens : openOf (tagOf (g .width)) (g .reserved) v₀ st ≡ record { answer = Opened s₀ 0; staging = empty }
+  opens : openOf tagOf (g .reserved) v₀ st ≡ record { answer = taken (s₀, 0); staging = empty }
   opens = fresh .opened st (length-replicate (sectionSize (g .width) * 512) 0)
 
   -- every sector is read
-  found : (n : ℕ) → n < g .provided → readTaken (readOf (tagOf (g .width)) s₀ v₀ empty n (replicate 512 0) .answer) ≡ true
+  found : (n : ℕ) → n < g .provided → isTaken (readOf tagOf s₀ v₀ empty n (replicate 512 0) .answer) ≡ true
   unfolding after
   found n l =
-      ap (λ (o : ReadResult). readTaken (o .answer))
+      ap (λ (o : ReadResult). isTaken (o .answer))
       (demand3-sha256 g v e (anOpen st ∷ []) (ap (λ (o : OpenResult). openWorld v₀ o .settled) opens)
       .reads s₀ empty (replicate 512 0) n (ap (λ (o : OpenResult). openWorld v₀ o .live) opens) (length-replicate {A = ℕ} 512 0) l)
 
@@ -80,19 +78,18 @@ module _ (g : Layout) (v : List ℕ) (e : formatOf (tagOf (g .width)) g v .answe
   unfolding isBad
   good n l = ap (λ (b : Bool). not b && ltb n (g .provided)) (found n l)
 
-  recovers : reportFrom g (recoverFrom v₀ (openOf (tagOf (g .width)) (g .reserved) v₀ st)) .text ≡ checkText g 0 (isBad s₀ v₀ empty)
+  recovers : reportFrom g (recoverFrom v₀ (openOf tagOf (g .reserved) v₀ st)) .text ≡ checkText g 0 (isBad s₀ v₀ empty)
   unfolding advanceFrom
   recovers = ap (λ (o : OpenResult). reportFrom g (recoverFrom v₀ o) .text) opens
 
   module _ (none : g .reserved ≡ 0) (small : length v₀ ≤ mostSectors * 512) where
     held : reportHeld v₀ (queryOf 0 v₀) .text ≡ reportFrom g (recoverOf 0 v₀ st) .text
-    held = ap (λ (r : ℕ). reportHeld v₀ (queryOf r v₀) .text) (sym none) ∙ ap (λ (q : QueryAnswer). reportHeld v₀ q .text) (fresh .queried)
+    held = ap (λ (r : ℕ). reportHeld v₀ (queryOf r v₀) .text) (sym none) ∙ ap (λ (q : Answer ℕ (Layout × ℕ)). reportHeld v₀ q .text) (fresh .queried)
 
-    decoded : recoverOf 0 v₀ st ≡ recoverFrom v₀ (openOf (tagOf (g .width)) (g .reserved) v₀ st)
-    unfolding recoverOf after
+    decoded : recoverOf 0 v₀ st ≡ recoverFrom v₀ (openOf tagOf (g .reserved) v₀ st)
+    unfolding recoverOf
     decoded =
-        ap (λ (r : ℕ). recoverFrom v₀ (openOf (tagOf (layoutIn r (superblockAt r v₀) .width)) r v₀ st)) (sym none)
-        ∙ ap (λ (x : Layout). recoverFrom v₀ (openOf (tagOf (x .width)) (g .reserved) v₀ st)) (guaranteed-sha256 g v e [] .layout)
+        ap (λ (r : ℕ). recoverFrom v₀ (openOf tagOf r v₀ st)) (sym none)
 
     reports : reportOf v₀ .text ≡ checkText g 0 (λ s. false)
     unfolding reportOf

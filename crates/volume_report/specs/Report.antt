@@ -20,24 +20,19 @@ use mathlib.Core.Path.{_≡_}
 use lib.ListN.{length, getD, replicate}
 use lib.Dec.{ltb, eqb}
 use Rattle.io.specs.Digits.{digits}
+use Rattle.octets.specs.Answer.{Refusal, Answer, taken, refused, refusal}
 use Rattle.octets.specs.Choice.{pick}
 use Rattle.octets.specs.Parts.{patch}
 use Rattle.octets.specs.Sectors.{sectorSize}
-use Rattle.model.specs.declared.FormatAnswer.the-variants.{Formatted}
 use Rattle.model.specs.declared.Layout.{Layout}
-use Rattle.model.specs.declared.QueryAnswer.{QueryAnswer}
-use Rattle.model.specs.declared.QueryAnswer.the-variants as querying
-use Rattle.model.specs.declared.Refusal.{Refusal}
-use Rattle.model.specs.declared.Refusal.the-variants.{Malformed}
+use Rattle.model.specs.declared.State.{State}
 use Rattle.model.specs.Layout.{runLength}
-use Rattle.model.specs.Refusal.{numberOf}
 use Rattle.model.specs.Section.{collect}
 use Rattle.model.specs.Tag.{tagOf}
+use Rattle.model.specs.State.{passed}
 use Rattle.model.specs.Format.{formatOf}
 use Rattle.model.specs.Query.{queryOf}
 use Rattle.volume_check.specs.Check.{RecoverResult, recoverOf, isBad, countOf}
-use Rattle.volume_check.specs.declared.RecoverAnswer.{RecoverAnswer}
-use Rattle.volume_check.specs.declared.RecoverAnswer.the-variants.{Recovered, Refused}
 
 -- "an image of at most 128 sectors"
 abbrev pub mostSectors : ℕ
@@ -68,8 +63,8 @@ lineOf w n = fieldOf w n ++ newline
 
 -- ---- lines
 
-abbrev pub refusedLine : Refusal → List ℕ
-refusedLine r = lineOf "refused " (numberOf r)
+abbrev pub refusedLine : Refusal ℕ → List ℕ
+refusedLine r = lineOf "refused " (r .number)
 
 abbrev pub layoutLine : Layout → List ℕ
 layoutLine g =
@@ -97,31 +92,31 @@ pub record Report : Type 0 where
   pub text : List ℕ
   pub image : List ℕ
 
-abbrev pub refusedReport : List ℕ → Refusal → Report
+abbrev pub refusedReport : List ℕ → Refusal ℕ → Report
 refusedReport v r = record { text = refusedLine r; image = v }
 
-abbrev pub reportBy : Layout → RecoverAnswer → List ℕ → List ℕ → Report
-reportBy g (Recovered s n) v st = record { text = checkText g n (isBad s v st); image = v }
-reportBy g (Refused r) v st = refusedReport v r
+abbrev pub reportBy : Layout → Answer ℕ (State × ℕ) → List ℕ → List ℕ → Report
+reportBy g (taken x) v st = record { text = checkText g (x .1) (isBad (x .0) v st); image = v }
+reportBy g (refused r) v st = refusedReport v r
 
 abbrev pub reportFrom : Layout → RecoverResult → Report
 reportFrom g o = reportBy g (o .answer) (o .volume) (o .staging)
 
 -- the length of staging follows from the superblock
-abbrev pub reportHeld : List ℕ → QueryAnswer → Report
-reportHeld v (querying.Holds g n) = reportFrom g (recoverOf 0 v (replicate n 0))
-reportHeld v (querying.Refused r) = refusedReport v r
+abbrev pub reportHeld : List ℕ → Answer ℕ (Layout × ℕ) → Report
+reportHeld v (taken x) = reportFrom (x .0) (recoverOf 0 v (replicate (x .1) 0))
+reportHeld v (refused r) = refusedReport v r
 
 -- "A refused opening, or input too long (1)"
 unfoldable pub reportOf : List ℕ → Report
-reportOf v = pick (ltb (mostSectors * sectorSize) (length v)) (refusedReport v Malformed) (reportHeld v (queryOf 0 v))
+reportOf v = pick (ltb (mostSectors * sectorSize) (length v)) (refusedReport v (refusal 1 [])) (reportHeld v (queryOf 0 v))
 
 -- of a volume that format left, as an image: no store to come, and no bad sector. The proof is in proofs/Fresh.
 abbrev pub FreshReports : Type 0
 FreshReports =
-    (g : Layout) (v : List ℕ) → formatOf (tagOf (g .width)) g v .answer ≡ Formatted → g .reserved ≡ 0
-    → length (formatOf (tagOf (g .width)) g v .volume) ≤ mostSectors * sectorSize
-    → reportOf (formatOf (tagOf (g .width)) g v .volume) .text ≡ checkText g 0 (λ s. false)
+    (g : Layout) (v : List ℕ) → formatOf tagOf g v .answer ≡ passed → g .reserved ≡ 0
+    → length (formatOf tagOf g v .volume) ≤ mostSectors * sectorSize
+    → reportOf (formatOf tagOf g v .volume) .text ≡ checkText g 0 (λ s. false)
 
 -- "A fresh image with T 32, N 16, S 1, P 16 prints exactly"
 abbrev pub example : Layout
@@ -129,8 +124,8 @@ example = record { reserved = 0; shift = 4; width = 32; sections = 1; provided =
 
 abbrev pub FreshPrints : Type 0
 FreshPrints =
-    (v : List ℕ) → formatOf (tagOf 32) example v .answer ≡ Formatted → length (formatOf (tagOf 32) example v .volume) ≤ mostSectors * sectorSize
-    → reportOf (formatOf (tagOf 32) example v .volume) .text ≡ bytesOf "tag 32 run 16 sections 1 provided 16\nreplay 0\nbad 0\n"
+    (v : List ℕ) → formatOf tagOf example v .answer ≡ passed → length (formatOf tagOf example v .volume) ≤ mostSectors * sectorSize
+    → reportOf (formatOf tagOf example v .volume) .text ≡ bytesOf "tag 32 run 16 sections 1 provided 16\nreplay 0\nbad 0\n"
 
 -- ---- what a call did with the loan that takes the text
 

@@ -13,6 +13,7 @@ ghost use lib.Dec.{eqb};
 ghost use lib.ListN.{length};
 ghost use Rattle.io.specs.Counts.{Counts};
 ghost use Rattle.octets.specs.Choice.{pick};
+ghost use Rattle.model.specs.Refusal.{refusalOf};
 ghost use Rattle.model.specs.Layout.{layoutOk};
 ghost use Rattle.volume_check.specs.Check.{recoverOf, isBad};
 ghost use Rattle.volume_report.specs.Report.{newline, decimal, layoutLine, flagged, badLine, badLines, refusedLine, checkedText, checkText, reportFrom, reportOf, Puts, Reports};
@@ -69,7 +70,7 @@ fn put_line(text: &mut [u8], at: usize, word: &[u8], n: usize) -> usize
 // Puts the line of a refusal.
 fn put_refused(text: &mut [u8], r: Refusal) -> usize
     requires { ⌜ 8192 ≤ length (now text) ⌝ }
-    ensures { λ n. ⌜ Puts (now (text .entry)) 0 (refusedLine r) n (now (text .exit)) ⌝ }
+    ensures { λ n. ⌜ Puts (now (text .entry)) 0 (refusedLine (refusalOf r)) n (now (text .exit)) ⌝ }
 {
     put_line(text, 0, b"refused ", model::number(r) as usize)
 }
