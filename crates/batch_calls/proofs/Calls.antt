@@ -1,25 +1,25 @@
 -- What each call leaves, a `return` at a time, over plain values.
 use Prim.Native.Nat.{ℕ}
 use mathlib.Core.Bool.{true, false}
-use mathlib.Core.List.{List}
+use mathlib.Core.List.{List, []}
 use mathlib.Core.Logic.{_≢_}
 use mathlib.Core.Path.{_≡_}
 use lib.ListN.{length}
 use borrow.Author.Tests.{eq-eqb, ne-eqb}
+use Rattle.octets.specs.Answer.{refusal}
 use Rattle.model.specs.declared.Flushed.{Flushed}
 use Rattle.model.specs.declared.ReadAnswer.{ReadAnswer}
-use Rattle.model.specs.declared.Refusal.the-variants.{Malformed}
 use Rattle.model.specs.declared.State.{State}
 use Rattle.model.specs.declared.Written.{Written}
-use Rattle.model.specs.Refusal.{numberOf}
+use Rattle.model.specs.Refusal.{writeAnswer, flushAnswer, readAnswer}
 use Rattle.model.specs.Tag.{tagOf}
 use Rattle.model.specs.Write.{writeOf}
 use Rattle.model.specs.Flush.{flushOf}
 use Rattle.model.specs.Read.{readOf}
-use Rattle.volume_batch.specs.Results.{written}
+use Rattle.volume_batch.specs.Results.{written, flushed}
 use Rattle.digest_calls.specs.Outcome.{wrongLength}
 use Rattle.volume_state.specs.VolumeState.{decodeOf, encodeOf, encodesState}
-use Rattle.replies.specs.Replies.{answerSize, answerBytesOf, refusal, writeReply, flushReply, readReply}
+use Rattle.replies.specs.Replies.{answerSize, answerBytesOf, refusedReply, plainReply, flushReply}
 use Rattle.batch_calls.specs.Batch.{writeCall, flushCall, readCall}
 use Rattle.replies.proofs.Answers.{Replied}
 
@@ -31,17 +31,17 @@ module _ (s st : List ℕ) (i : ℕ) (b a : List ℕ) where
   write-wrong h = rw (ne-eqb (length a) answerSize h)
 
   module _ (fits : length a ≡ answerSize) (a' : List ℕ) (n : ℕ) where
-    pub write-malformed : encodesState s ≡ false → (n ≡ numberOf Malformed) × (a' ≡ answerBytesOf (refusal Malformed))
+    pub write-malformed : encodesState s ≡ false → (n ≡ 1) × (a' ≡ answerBytesOf (refusedReply (refusal 1 [])))
         → record { number = n; state = s; staging = st; answer = a' } ≡ writeCall s st i b a
     unfolding writeCall
     write-malformed h p = rw (eq-eqb (length a) answerSize fits, h, p .0, p .1)
 
     pub write-made : encodesState s ≡ true → (d : State) → d ≡ decodeOf s → (o : Written) (s' st' : List ℕ)
-        → written o st' ≡ writeOf (tagOf (d .layout .width)) d st i b → s' ≡ encodeOf (o .state)
-        → Replied (writeReply (o .answer)) n a' → record { number = n; state = s'; staging = st'; answer = a' } ≡ writeCall s st i b a
+        → written o st' ≡ writeOf tagOf d st i b → s' ≡ encodeOf (o .state)
+        → Replied (plainReply (writeAnswer (o .answer))) n a' → record { number = n; state = s'; staging = st'; answer = a' } ≡ writeCall s st i b a
     unfolding writeCall
     write-made h d ed o s' st' e es p =
-        let made : written o st' ≡ writeOf (tagOf (decodeOf s .layout .width)) (decodeOf s) st i b = rw ed at e in
+        let made : written o st' ≡ writeOf tagOf (decodeOf s) st i b = rw ed at e in
         rw (eq-eqb (length a) answerSize fits, h, ← made, es, p .number, p .answer)
 
 -- ---- flush
@@ -52,16 +52,16 @@ module _ (s a : List ℕ) where
   flush-wrong h = rw (ne-eqb (length a) answerSize h)
 
   module _ (fits : length a ≡ answerSize) (a' : List ℕ) (n : ℕ) where
-    pub flush-malformed : encodesState s ≡ false → (n ≡ numberOf Malformed) × (a' ≡ answerBytesOf (refusal Malformed))
+    pub flush-malformed : encodesState s ≡ false → (n ≡ 1) × (a' ≡ answerBytesOf (refusedReply (refusal 1 [])))
         → record { number = n; state = s; answer = a' } ≡ flushCall s a
     unfolding flushCall
     flush-malformed h p = rw (eq-eqb (length a) answerSize fits, h, p .0, p .1)
 
-    pub flush-made : encodesState s ≡ true → (d : State) → d ≡ decodeOf s → (o : Flushed) (s' : List ℕ) → o ≡ flushOf d → s' ≡ encodeOf (o .state)
-        → Replied (flushReply (o .answer)) n a' → record { number = n; state = s'; answer = a' } ≡ flushCall s a
+    pub flush-made : encodesState s ≡ true → (d : State) → d ≡ decodeOf s → (o : Flushed) (s' : List ℕ) → flushed o ≡ flushOf d → s' ≡ encodeOf (o .state)
+        → Replied (flushReply (flushAnswer (o .answer))) n a' → record { number = n; state = s'; answer = a' } ≡ flushCall s a
     unfolding flushCall
     flush-made h d ed o s' e es p =
-        let made : o ≡ flushOf (decodeOf s) = rw ed at e in
+        let made : flushed o ≡ flushOf (decodeOf s) = rw ed at e in
         rw (eq-eqb (length a) answerSize fits, h, ← made, es, p .number, p .answer)
 
 -- ---- read
@@ -72,15 +72,15 @@ module _ (s v st : List ℕ) (i : ℕ) (b a : List ℕ) where
   read-wrong h = rw (ne-eqb (length a) answerSize h)
 
   module _ (fits : length a ≡ answerSize) (a' : List ℕ) (n : ℕ) where
-    pub read-malformed : encodesState s ≡ false → (n ≡ numberOf Malformed) × (a' ≡ answerBytesOf (refusal Malformed))
+    pub read-malformed : encodesState s ≡ false → (n ≡ 1) × (a' ≡ answerBytesOf (refusedReply (refusal 1 [])))
         → record { number = n; sector = b; answer = a' } ≡ readCall s v st i b a
     unfolding readCall
     read-malformed h p = rw (eq-eqb (length a) answerSize fits, h, p .0, p .1)
 
     pub read-made : encodesState s ≡ true → (d : State) → d ≡ decodeOf s → (o : ReadAnswer) (b' : List ℕ)
-        → record { answer = o; sector = b' } ≡ readOf (tagOf (d .layout .width)) d v st i b
-        → Replied (readReply o) n a' → record { number = n; sector = b'; answer = a' } ≡ readCall s v st i b a
+        → record { answer = readAnswer o; sector = b' } ≡ readOf tagOf d v st i b
+        → Replied (plainReply (readAnswer o)) n a' → record { number = n; sector = b'; answer = a' } ≡ readCall s v st i b a
     unfolding readCall
     read-made h d ed o b' e p =
-        let made : record { answer = o; sector = b' } ≡ readOf (tagOf (decodeOf s .layout .width)) (decodeOf s) v st i b = rw ed at e in
+        let made : record { answer = readAnswer o; sector = b' } ≡ readOf tagOf (decodeOf s) v st i b = rw ed at e in
         rw (eq-eqb (length a) answerSize fits, h, ← made, p .number, p .answer)

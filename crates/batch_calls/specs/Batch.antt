@@ -4,20 +4,23 @@
 -- writeCall s st n b a      : what gaffreel_volume_write leaves of the state's buffer s, staging st, sector n, its bytes b, and the answer's buffer a
 -- flushCall s a             : what gaffreel_volume_flush leaves
 -- readCall s v st n b a     : what gaffreel_volume_read leaves; v is the volume, and b the buffer that receives the sector's bytes
+-- RefusedBatchKeeps         : a call that is refused leaves every buffer but the answer's as it was
 use Prim.Native.Nat.{ℕ}
 use mathlib.Core.Bool.{not}
 use mathlib.Core.List.{List, [], _∷_}
+use mathlib.Core.Logic.{_≢_}
+use mathlib.Core.Path.{_≡_}
 use lib.ListN.{length}
+use Rattle.octets.specs.Numbers.{Bytes}
+use Rattle.octets.specs.Answer.{refusal}
 use Rattle.octets.specs.Choice.{firstMet}
-use Rattle.model.specs.declared.Flushed.{Flushed}
-use Rattle.model.specs.declared.Refusal.the-variants.{Malformed}
-use Rattle.model.specs.Refusal.{numberOf}
 use Rattle.model.specs.Tag.{tagOf}
 use Rattle.model.specs.Write.{WriteResult, writeOf}
-use Rattle.model.specs.Flush.{flushOf}
+use Rattle.model.specs.Flush.{FlushResult, flushOf}
 use Rattle.model.specs.Read.{ReadResult, readOf}
+use Rattle.buffers.specs.Done.{done}
 use Rattle.volume_state.specs.VolumeState.{encodeOf, decodeOf, encodesState}
-use Rattle.replies.specs.Replies.{answerSize, answerBytesOf, refusal, writeReply, flushReply, readReply}
+use Rattle.replies.specs.Replies.{answerSize, answerBytesOf, refusedReply, plainReply, flushReply}
 use Rattle.digest_calls.specs.Outcome.{wrongLength, differs}
 
 -- ---- write
@@ -33,10 +36,10 @@ pub record WriteCall : Type 0 where
 abbrev pub writeLeaves : WriteResult → WriteCall
 writeLeaves o =
     record {
-      number = writeReply (o .answer) .number;
+      number = plainReply (o .answer) .number;
       state = encodeOf (o .state);
       staging = o .staging;
-      answer = answerBytesOf (writeReply (o .answer));
+      answer = answerBytesOf (plainReply (o .answer));
     }
 
 unfoldable pub writeCall : List ℕ → List ℕ → ℕ → List ℕ → List ℕ → WriteCall
@@ -44,10 +47,10 @@ writeCall s st n b a =
     firstMet
     ((differs (length a) answerSize, record { number = wrongLength; state = s; staging = st; answer = a }) ∷ (
       not (encodesState s),
-      record { number = numberOf Malformed; state = s; staging = st; answer = answerBytesOf (refusal Malformed) },
+      record { number = 1; state = s; staging = st; answer = answerBytesOf (refusedReply (refusal 1 [])) },
     ) ∷
     [])
-    (writeLeaves (writeOf (tagOf (decodeOf s .layout .width)) (decodeOf s) st n b))
+    (writeLeaves (writeOf tagOf (decodeOf s) st n b))
 
 -- ---- flush
 
@@ -56,7 +59,7 @@ pub record FlushCall : Type 0 where
   pub state : List ℕ
   pub answer : List ℕ
 
-abbrev pub flushLeaves : Flushed → FlushCall
+abbrev pub flushLeaves : FlushResult → FlushCall
 flushLeaves o =
     record {
       number = flushReply (o .answer) .number;
@@ -68,7 +71,7 @@ unfoldable pub flushCall : List ℕ → List ℕ → FlushCall
 flushCall s a =
     firstMet
     ((differs (length a) answerSize, record { number = wrongLength; state = s; answer = a }) ∷
-    (not (encodesState s), record { number = numberOf Malformed; state = s; answer = answerBytesOf (refusal Malformed) }) ∷
+    (not (encodesState s), record { number = 1; state = s; answer = answerBytesOf (refusedReply (refusal 1 [])) }) ∷
     [])
     (flushLeaves (flushOf (decodeOf s)))
 
@@ -80,12 +83,21 @@ pub record ReadCall : Type 0 where
   pub answer : List ℕ
 
 abbrev pub readLeaves : ReadResult → ReadCall
-readLeaves o = record { number = readReply (o .answer) .number; sector = o .sector; answer = answerBytesOf (readReply (o .answer)) }
+readLeaves o = record { number = plainReply (o .answer) .number; sector = o .sector; answer = answerBytesOf (plainReply (o .answer)) }
 
 unfoldable pub readCall : List ℕ → List ℕ → List ℕ → ℕ → List ℕ → List ℕ → ReadCall
 readCall s v st n b a =
     firstMet
     ((differs (length a) answerSize, record { number = wrongLength; sector = b; answer = a }) ∷
-    (not (encodesState s), record { number = numberOf Malformed; sector = b; answer = answerBytesOf (refusal Malformed) }) ∷
+    (not (encodesState s), record { number = 1; sector = b; answer = answerBytesOf (refusedReply (refusal 1 [])) }) ∷
     [])
-    (readLeaves (readOf (tagOf (decodeOf s .layout .width)) (decodeOf s) v st n b))
+    (readLeaves (readOf tagOf (decodeOf s) v st n b))
+
+-- ---- "After a refusal the state and all loans are unchanged": a call that answers another number than that of a call carried out leaves every buffer but
+-- the answer's as it was. The proofs are in proofs/Refusals.
+
+pub record RefusedBatchKeeps : Type 0 where
+  pub write : (s st : List ℕ) (n : ℕ) (b a : List ℕ) → Bytes s → writeCall s st n b a .number ≢ done
+      → (writeCall s st n b a .state ≡ s) × (writeCall s st n b a .staging ≡ st)
+  pub flush : (s a : List ℕ) → Bytes s → flushCall s a .number ≢ done → flushCall s a .state ≡ s
+  pub read : (s v st : List ℕ) (n : ℕ) (b a : List ℕ) → readCall s v st n b a .number ≢ done → readCall s v st n b a .sector ≡ b

@@ -10,10 +10,10 @@ use Rattle.model.specs.declared.Refusal.{Refusal}
 use Rattle.model.specs.declared.Says.{Says}
 use Rattle.model.specs.declared.StepAnswer.{StepAnswer}
 use Rattle.model.specs.declared.StepAnswer.the-variants.{Stepped, Refused}
-use Rattle.model.specs.Refusal.{numberOf, valuesOf}
+use Rattle.model.specs.Refusal.{refusalOf, stepAnswer}
 use Rattle.replies.specs.declared.Reply.{Reply}
 use Rattle.buffers.specs.Numbers.{numberBytes}
-use Rattle.replies.specs.Replies.{answerSize, answerBytesOf, carriedOut, refusal, withCounts, storedOf, sectorOf, saysOf, stepReply}
+use Rattle.replies.specs.Replies.{answerSize, answerBytesOf, carriedOut, refusedReply, withCounts, storedOf, sectorOf, saysOf, stepReply}
 use Rattle.buffers.proofs.NumberBytes.{length-number-bytes}
 
 pub answered : (r : Reply) (b d : List ℕ) → length b ≡ answerSize → d ≡ patch b 0 (numberBytes 8 (r .first ∷ r .second ∷ r .third ∷ r .fourth ∷ r .fifth ∷ []))
@@ -24,17 +24,17 @@ answered r b d size e =
     e ∙ patch-all b (numberBytes 8 five) (length-number-bytes 8 five ∙ sym size)
 
 -- the refusal r, told apart as q, with the values of q
-pub refused-as : (r q : Refusal) (n : ℕ) (x : Reply) → n ≡ numberOf r → r ≡ q
-    → x ≡ record { number = n; first = length (valuesOf q); second = getD (valuesOf q) 0 0; third = getD (valuesOf q) 1 0; fourth = 0; fifth = 0 }
-    → x ≡ refusal r
+pub refused-as : (r q : Refusal) (n : ℕ) (x : Reply) → n ≡ refusalOf r .number → r ≡ q
+    → x ≡ record { number = n; first = length (refusalOf q .values); second = getD (refusalOf q .values) 0 0; third = getD (refusalOf q .values) 1 0; fourth = 0; fifth = 0 }
+    → x ≡ refusedReply (refusalOf r)
 refused-as r q n x en eq ex = rw (ex, en, eq)
 
 module _ (a : StepAnswer) (n k : ℕ) (x : Reply) where
   pub stepped-reply : (d : Done) (w : Says) (i j m : ℕ) → a ≡ Stepped d w → i ≡ storedOf d → j ≡ sectorOf d → m ≡ saysOf w → x ≡ carriedOut i j m n k
-      → x ≡ stepReply a n k
+      → x ≡ stepReply (stepAnswer a) n k
   stepped-reply d w i j m ea ei ej em ex = rw (ex, ea, ei, ej, em)
 
-  pub refused-reply : (r : Refusal) (y : Reply) → a ≡ Refused r → y ≡ refusal r → x ≡ withCounts y n k → x ≡ stepReply a n k
+  pub refused-reply : (r : Refusal) (y : Reply) → a ≡ Refused r → y ≡ refusedReply (refusalOf r) → x ≡ withCounts y n k → x ≡ stepReply (stepAnswer a) n k
   refused-reply r y ea ey ex = rw (ex, ea, ey)
 
 -- ---- a reply put, as the calls cite it

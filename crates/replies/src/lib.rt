@@ -18,11 +18,13 @@ use model::StepAnswer;
 use model::WriteAnswer;
 use volume_state::encode;
 use volume_state::put_layout;
+ghost use mathlib.Core.List.{[]};
 ghost use mathlib.Core.Path.{_≡_};
 ghost use lib.ListN.{length};
-ghost use Rattle.model.specs.Refusal.{numberOf};
+ghost use Rattle.octets.specs.Answer.{refusal};
+ghost use Rattle.model.specs.Refusal.{refusalOf, formatAnswer, openAnswer, queryAnswer, writeAnswer, flushAnswer, stepAnswer, readAnswer};
 ghost use Rattle.volume_state.specs.VolumeState.{stateSize, layoutSize};
-ghost use Rattle.replies.specs.Replies.{answerSize, answerBytesOf, carriedOut, refusal, withCounts, formatReply, writeReply, flushReply, readReply, openReply, queryReply, storedOf, sectorOf, saysOf, stepReply, openedBytes, heldBytes};
+ghost use Rattle.replies.specs.Replies.{answerSize, answerBytesOf, carriedOut, refusedReply, withCounts, plainReply, flushReply, openReply, queryReply, storedOf, sectorOf, saysOf, stepReply, openedBytes, heldBytes};
 
 // What a call says: the number that it answers, and the five numbers that go to the answer's buffer.
 pub struct Reply {
@@ -64,7 +66,7 @@ fn refused_with(number: u32, count: u64, first: usize, second: usize) -> Reply
 
 // The reply of a call that was refused.
 fn refused(r: Refusal) -> Reply
-    ensures { λ x. ⌜ x ≡ refusal r ⌝ }
+    ensures { λ x. ⌜ x ≡ refusedReply (refusalOf r) ⌝ }
 {
     let number = model::number(r);
     match r {
@@ -101,7 +103,7 @@ fn with_counts(r: Reply, fourth: u64, fifth: u64) -> Reply
 
 // The reply to what format answers.
 pub fn format_reply(a: FormatAnswer) -> Reply
-    ensures { λ r. ⌜ r ≡ formatReply a ⌝ }
+    ensures { λ r. ⌜ r ≡ plainReply (formatAnswer a) ⌝ }
 {
     match a {
         FormatAnswer::Formatted => carried_out(0, 0, 0, 0, 0),
@@ -111,7 +113,7 @@ pub fn format_reply(a: FormatAnswer) -> Reply
 
 // The reply to what write answers.
 pub fn write_reply(a: WriteAnswer) -> Reply
-    ensures { λ r. ⌜ r ≡ writeReply a ⌝ }
+    ensures { λ r. ⌜ r ≡ plainReply (writeAnswer a) ⌝ }
 {
     match a {
         WriteAnswer::Taken => carried_out(0, 0, 0, 0, 0),
@@ -121,7 +123,7 @@ pub fn write_reply(a: WriteAnswer) -> Reply
 
 // The reply to what flush answers.
 pub fn flush_reply(a: FlushAnswer) -> Reply
-    ensures { λ r. ⌜ r ≡ flushReply a ⌝ }
+    ensures { λ r. ⌜ r ≡ flushReply (flushAnswer a) ⌝ }
 {
     match a {
         FlushAnswer::Acknowledged => carried_out(1, 0, 0, 0, 0),
@@ -132,7 +134,7 @@ pub fn flush_reply(a: FlushAnswer) -> Reply
 
 // The reply to what read answers.
 pub fn read_reply(a: ReadAnswer) -> Reply
-    ensures { λ r. ⌜ r ≡ readReply a ⌝ }
+    ensures { λ r. ⌜ r ≡ plainReply (readAnswer a) ⌝ }
 {
     match a {
         ReadAnswer::Found => carried_out(0, 0, 0, 0, 0),
@@ -142,7 +144,7 @@ pub fn read_reply(a: ReadAnswer) -> Reply
 
 // The reply to what open answers.
 pub fn open_reply(a: OpenAnswer) -> Reply
-    ensures { λ r. ⌜ r ≡ openReply a ⌝ }
+    ensures { λ r. ⌜ r ≡ openReply (openAnswer a) ⌝ }
 {
     match a {
         OpenAnswer::Opened(_, stores) => carried_out(stores as u64, 0, 0, 0, 0),
@@ -152,7 +154,7 @@ pub fn open_reply(a: OpenAnswer) -> Reply
 
 // The reply to what query answers.
 pub fn query_reply(a: QueryAnswer) -> Reply
-    ensures { λ r. ⌜ r ≡ queryReply a ⌝ }
+    ensures { λ r. ⌜ r ≡ queryReply (queryAnswer a) ⌝ }
 {
     match a {
         QueryAnswer::Holds(_, staging) => carried_out(staging as u64, 0, 0, 0, 0),
@@ -193,7 +195,7 @@ fn says(x: Says) -> u64
 
 // The reply to what a step answers, with two numbers more, which a refusal has too.
 pub fn step_reply(a: StepAnswer, fourth: u64, fifth: u64) -> Reply
-    ensures { λ r. ⌜ r ≡ stepReply a fourth fifth ⌝ }
+    ensures { λ r. ⌜ r ≡ stepReply (stepAnswer a) fourth fifth ⌝ }
 {
     match a {
         StepAnswer::Stepped(d, x) => carried_out(
@@ -219,7 +221,7 @@ pub fn put_reply(r: Reply, answer: &mut [u8]) -> u32
 // The reply where a buffer has a wrong length, or the state's holds no state.
 pub fn put_malformed(answer: &mut [u8]) -> u32
     requires { ⌜ length (now answer) ≡ answerSize ⌝ }
-    ensures { λ n. ⌜ (n ≡ numberOf Refusal.Malformed) × (now (answer .exit) ≡ answerBytesOf (refusal Refusal.Malformed)) ⌝ }
+    ensures { λ n. ⌜ (n ≡ 1) × (now (answer .exit) ≡ answerBytesOf (refusedReply (refusal 1 []))) ⌝ }
 {
     put_reply(refused(Refusal::Malformed), answer)
 }
@@ -227,7 +229,7 @@ pub fn put_malformed(answer: &mut [u8]) -> u32
 // The state that open gives written over a buffer; a refusal leaves the buffer as it was.
 pub fn put_opened(a: OpenAnswer, buffer: &mut [u8])
     requires { ⌜ length (now buffer) ≡ stateSize ⌝ }
-    ensures { λ _. ⌜ now (buffer .exit) ≡ openedBytes a (now (buffer .entry)) ⌝ }
+    ensures { λ _. ⌜ now (buffer .exit) ≡ openedBytes (openAnswer a) (now (buffer .entry)) ⌝ }
 {
     match a {
         OpenAnswer::Opened(s, _) => encode(s, buffer),
@@ -238,7 +240,7 @@ pub fn put_opened(a: OpenAnswer, buffer: &mut [u8])
 // The layout that query gives written over a buffer; a refusal leaves the buffer as it was.
 pub fn put_held(a: QueryAnswer, buffer: &mut [u8])
     requires { ⌜ length (now buffer) ≡ layoutSize ⌝ }
-    ensures { λ _. ⌜ now (buffer .exit) ≡ heldBytes a (now (buffer .entry)) ⌝ }
+    ensures { λ _. ⌜ now (buffer .exit) ≡ heldBytes (queryAnswer a) (now (buffer .entry)) ⌝ }
 {
     match a {
         QueryAnswer::Holds(g, _) => put_layout(g, buffer),

@@ -1,24 +1,23 @@
 -- What each call leaves, a `return` at a time, over plain values.
 use Prim.Native.Nat.{ℕ}
-use mathlib.Core.List.{List}
+use mathlib.Core.List.{List, []}
 use mathlib.Core.Logic.{_≢_}
 use mathlib.Core.Path.{_≡_}
 use lib.ListN.{length}
 use borrow.Author.Tests.{eq-eqb, ne-eqb}
+use Rattle.octets.specs.Answer.{refusal}
 use Rattle.model.specs.declared.FormatAnswer.{FormatAnswer}
 use Rattle.model.specs.declared.Layout.{Layout}
 use Rattle.model.specs.declared.OpenAnswer.{OpenAnswer}
 use Rattle.model.specs.declared.QueryAnswer.{QueryAnswer}
-use Rattle.model.specs.declared.Refusal.the-variants.{Malformed}
-use Rattle.model.specs.Refusal.{numberOf}
+use Rattle.model.specs.Refusal.{formatAnswer, openAnswer, queryAnswer}
 use Rattle.model.specs.Tag.{tagOf}
 use Rattle.model.specs.Format.{formatOf}
-use Rattle.model.specs.Superblock.{superblockAt, layoutIn}
 use Rattle.model.specs.Open.{openOf}
 use Rattle.model.specs.Query.{queryOf}
 use Rattle.digest_calls.specs.Outcome.{wrongLength}
 use Rattle.volume_state.specs.VolumeState.{stateSize, layoutSize}
-use Rattle.replies.specs.Replies.{answerSize, answerBytesOf, refusal, formatReply, openReply, queryReply, openedBytes, heldBytes}
+use Rattle.replies.specs.Replies.{answerSize, answerBytesOf, refusedReply, plainReply, openReply, queryReply, openedBytes, heldBytes}
 use Rattle.setup_calls.specs.Setup.{formatCall, openCall, queryCall}
 use Rattle.replies.proofs.Answers.{Replied}
 
@@ -29,8 +28,8 @@ module _ (v : List ℕ) (g : Layout) (a : List ℕ) where
   unfolding formatCall
   format-wrong h = rw (ne-eqb (length a) answerSize h)
 
-  pub format-made : length a ≡ answerSize → (o : FormatAnswer) (v' a' : List ℕ) (n : ℕ) → record { answer = o; volume = v' } ≡ formatOf (tagOf (g .width)) g v
-      → Replied (formatReply o) n a' → record { number = n; volume = v'; answer = a' } ≡ formatCall v g a
+  pub format-made : length a ≡ answerSize → (o : FormatAnswer) (v' a' : List ℕ) (n : ℕ) → record { answer = formatAnswer o; volume = v' } ≡ formatOf tagOf g v
+      → Replied (plainReply (formatAnswer o)) n a' → record { number = n; volume = v'; answer = a' } ≡ formatCall v g a
   unfolding formatCall
   format-made fits o v' a' n e p = rw (eq-eqb (length a) answerSize fits, ← e, p .number, p .answer)
 
@@ -42,13 +41,13 @@ module _ (v : List ℕ) (r : ℕ) (l a : List ℕ) where
   query-wrong h = rw (ne-eqb (length a) answerSize h)
 
   module _ (fits : length a ≡ answerSize) (a' : List ℕ) (n : ℕ) where
-    pub query-malformed : length l ≢ layoutSize → (n ≡ numberOf Malformed) × (a' ≡ answerBytesOf (refusal Malformed))
+    pub query-malformed : length l ≢ layoutSize → (n ≡ 1) × (a' ≡ answerBytesOf (refusedReply (refusal 1 [])))
         → record { number = n; layout = l; answer = a' } ≡ queryCall v r l a
     unfolding queryCall
     query-malformed h p = rw (eq-eqb (length a) answerSize fits, ne-eqb (length l) layoutSize h, p .0, p .1)
 
-    pub query-made : length l ≡ layoutSize → (o : QueryAnswer) (l' : List ℕ) → o ≡ queryOf r v → l' ≡ heldBytes o l
-        → Replied (queryReply o) n a' → record { number = n; layout = l'; answer = a' } ≡ queryCall v r l a
+    pub query-made : length l ≡ layoutSize → (o : QueryAnswer) (l' : List ℕ) → queryAnswer o ≡ queryOf r v → l' ≡ heldBytes (queryAnswer o) l
+        → Replied (queryReply (queryAnswer o)) n a' → record { number = n; layout = l'; answer = a' } ≡ queryCall v r l a
     unfolding queryCall
     query-made h o l' e el p = rw (eq-eqb (length a) answerSize fits, eq-eqb (length l) layoutSize h, ← e, el, p .number, p .answer)
 
@@ -60,13 +59,13 @@ module _ (v st : List ℕ) (r : ℕ) (s a : List ℕ) where
   open-wrong h = rw (ne-eqb (length a) answerSize h)
 
   module _ (fits : length a ≡ answerSize) (a' : List ℕ) (n : ℕ) where
-    pub open-malformed : length s ≢ stateSize → (n ≡ numberOf Malformed) × (a' ≡ answerBytesOf (refusal Malformed))
+    pub open-malformed : length s ≢ stateSize → (n ≡ 1) × (a' ≡ answerBytesOf (refusedReply (refusal 1 [])))
         → record { number = n; staging = st; state = s; answer = a' } ≡ openCall v st r s a
     unfolding openCall
     open-malformed h p = rw (eq-eqb (length a) answerSize fits, ne-eqb (length s) stateSize h, p .0, p .1)
 
     pub open-made : length s ≡ stateSize → (o : OpenAnswer) (st' s' : List ℕ)
-        → record { answer = o; staging = st' } ≡ openOf (tagOf (layoutIn r (superblockAt r v) .width)) r v st → s' ≡ openedBytes o s
-        → Replied (openReply o) n a' → record { number = n; staging = st'; state = s'; answer = a' } ≡ openCall v st r s a
+        → record { answer = openAnswer o; staging = st' } ≡ openOf tagOf r v st → s' ≡ openedBytes (openAnswer o) s
+        → Replied (openReply (openAnswer o)) n a' → record { number = n; staging = st'; state = s'; answer = a' } ≡ openCall v st r s a
     unfolding openCall
     open-made h o st' s' e es p = rw (eq-eqb (length a) answerSize fits, eq-eqb (length s) stateSize h, ← e, es, p .number, p .answer)

@@ -1,17 +1,17 @@
 -- What each call leaves, a `return` at a time, over plain values.
 use Prim.Native.Nat.{ℕ}
 use mathlib.Core.Bool.{true, false}
-use mathlib.Core.List.{List}
+use mathlib.Core.List.{List, []}
 use mathlib.Core.Logic.{_≢_}
 use mathlib.Core.Path.{_≡_, ap, _∙_}
 use lib.ListN.{length}
+use Rattle.octets.specs.Answer.{refusal}
 use Rattle.octets.specs.Choice.{pick}
 use borrow.Author.Tests.{eq-eqb, ne-eqb}
 use Rattle.model.specs.declared.Advanced.{Advanced}
-use Rattle.model.specs.declared.Refusal.the-variants.{Malformed}
 use Rattle.model.specs.declared.State.{State}
 use Rattle.model.specs.declared.Stepped.{Stepped}
-use Rattle.model.specs.Refusal.{numberOf}
+use Rattle.model.specs.Refusal.{stepAnswer}
 use Rattle.model.specs.Step.{StepResult, stepOf}
 use Rattle.model.specs.NextStore.{nextStoreOf}
 use Rattle.model.specs.Advance.{advanceOf}
@@ -19,7 +19,7 @@ use Rattle.volume_step.specs.Results.{Leaves, Fills}
 use Rattle.volume.specs.Results.{advanced}
 use Rattle.digest_calls.specs.Outcome.{wrongLength}
 use Rattle.volume_state.specs.VolumeState.{decodeOf, encodeOf, encodesState}
-use Rattle.replies.specs.Replies.{answerSize, answerBytesOf, refusal, stepReply}
+use Rattle.replies.specs.Replies.{answerSize, answerBytesOf, refusedReply, stepReply}
 use Rattle.step_calls.specs.Steps.{stepCall, advanceReply, advanceCall, nextStoreCall}
 use Rattle.replies.proofs.Answers.{Replied}
 
@@ -31,21 +31,20 @@ module _ (s v st a : List ℕ) where
   step-wrong h = rw (ne-eqb (length a) answerSize h)
 
   module _ (fits : length a ≡ answerSize) (a' : List ℕ) (n : ℕ) where
-    pub step-malformed : encodesState s ≡ false → (n ≡ numberOf Malformed) × (a' ≡ answerBytesOf (refusal Malformed))
+    pub step-malformed : encodesState s ≡ false → (n ≡ 1) × (a' ≡ answerBytesOf (refusedReply (refusal 1 [])))
         → record { number = n; state = s; volume = v; staging = st; answer = a' } ≡ stepCall s v st a
     unfolding stepCall
     step-malformed h p = rw (eq-eqb (length a) answerSize fits, h, p .0, p .1)
 
     pub step-made : encodesState s ≡ true → (d : State) → d ≡ decodeOf s → (o : Stepped) (s' v' st' : List ℕ) → Leaves v (stepOf d v st) o v' st'
-        → s' ≡ encodeOf (o .state) → Replied (stepReply (o .answer) 0 0) n a'
+        → s' ≡ encodeOf (o .state) → Replied (stepReply (stepAnswer (o .answer)) 0 0) n a'
         → record { number = n; state = s'; volume = v'; staging = st'; answer = a' } ≡ stepCall s v st a
     unfolding stepCall
     step-made h d ed o s' v' st' e es p =
         let made : Leaves v (stepOf (decodeOf s) v st) o v' st' = rw ed at e in
         let x : StepResult = stepOf (decodeOf s) v st in
-        let answer : o .answer ≡ x .answer = ap (λ (z : Stepped). z .answer) (made .returned) in
-        let state : s' ≡ encodeOf (x .state) = es ∙ ap (λ (z : Stepped). encodeOf (z .state)) (made .returned) in
-        rw (eq-eqb (length a) answerSize fits, h, ← answer, state, made .volume, made .staging, p .number, p .answer)
+        let state : s' ≡ encodeOf (x .state) = es ∙ ap encodeOf (made .state) in
+        rw (eq-eqb (length a) answerSize fits, h, ← made .answer, state, made .volume, made .staging, p .number, p .answer)
 
 -- ---- advance
 
@@ -55,14 +54,14 @@ module _ (s v st : List ℕ) (k : ℕ) (a : List ℕ) where
   advance-wrong h = rw (ne-eqb (length a) answerSize h)
 
   module _ (fits : length a ≡ answerSize) (a' : List ℕ) (n : ℕ) where
-    pub advance-malformed : encodesState s ≡ false → (n ≡ numberOf Malformed) × (a' ≡ answerBytesOf (refusal Malformed))
+    pub advance-malformed : encodesState s ≡ false → (n ≡ 1) × (a' ≡ answerBytesOf (refusedReply (refusal 1 [])))
         → record { number = n; state = s; volume = v; staging = st; answer = a' } ≡ advanceCall s v st k a
     unfolding advanceCall
     advance-malformed h p = rw (eq-eqb (length a) answerSize fits, h, p .0, p .1)
 
     pub advance-made : encodesState s ≡ true → (d : State) → d ≡ decodeOf s → (o : Advanced) (f : ℕ) (s' v' st' : List ℕ)
         → advanced o v' st' ≡ advanceOf k d v st → s' ≡ encodeOf (o .state) → f ≡ pick (o .acknowledged) 1 0
-        → Replied (stepReply (o .answer) (o .stores) f) n a'
+        → Replied (stepReply (stepAnswer (o .answer)) (o .stores) f) n a'
         → record { number = n; state = s'; volume = v'; staging = st'; answer = a' } ≡ advanceCall s v st k a
     unfolding advanceCall
     advance-made h d ed o f s' v' st' e es ef p =
@@ -78,18 +77,17 @@ module _ (s v st out a : List ℕ) where
   next-wrong h = rw (ne-eqb (length a) answerSize h)
 
   module _ (fits : length a ≡ answerSize) (a' : List ℕ) (n : ℕ) where
-    pub next-malformed : encodesState s ≡ false → (n ≡ numberOf Malformed) × (a' ≡ answerBytesOf (refusal Malformed))
+    pub next-malformed : encodesState s ≡ false → (n ≡ 1) × (a' ≡ answerBytesOf (refusedReply (refusal 1 [])))
         → record { number = n; state = s; staging = st; sector = out; answer = a' } ≡ nextStoreCall s v st out a
     unfolding nextStoreCall
     next-malformed h p = rw (eq-eqb (length a) answerSize fits, h, p .0, p .1)
 
     pub next-made : encodesState s ≡ true → (d : State) → d ≡ decodeOf s → (o : Stepped) (s' st' out' : List ℕ) → Fills out (nextStoreOf d v st out) o out' st'
-        → s' ≡ encodeOf (o .state) → Replied (stepReply (o .answer) 0 0) n a'
+        → s' ≡ encodeOf (o .state) → Replied (stepReply (stepAnswer (o .answer)) 0 0) n a'
         → record { number = n; state = s'; staging = st'; sector = out'; answer = a' } ≡ nextStoreCall s v st out a
     unfolding nextStoreCall
     next-made h d ed o s' st' out' e es p =
         let filled : Fills out (nextStoreOf (decodeOf s) v st out) o out' st' = rw ed at e in
         let x : StepResult = nextStoreOf (decodeOf s) v st out in
-        let answer : o .answer ≡ x .answer = ap (λ (z : Stepped). z .answer) (filled .returned) in
-        let state : s' ≡ encodeOf (x .state) = es ∙ ap (λ (z : Stepped). encodeOf (z .state)) (filled .returned) in
-        rw (eq-eqb (length a) answerSize fits, h, ← answer, state, filled .content, filled .staging, p .number, p .answer)
+        let state : s' ≡ encodeOf (x .state) = es ∙ ap encodeOf (filled .state) in
+        rw (eq-eqb (length a) answerSize fits, h, ← filled .answer, state, filled .content, filled .staging, p .number, p .answer)

@@ -6,12 +6,13 @@ use mathlib.Core.Logic.{_≢_}
 use mathlib.Core.Path.{_≡_, refl, _∙_}
 use lib.Dec.{eqb, ltb}
 use lib.ListN.{length}
+use Rattle.octets.specs.Answer.{taken, refused}
 use Rattle.octets.specs.Numbers.{Bytes}
 use Rattle.octets.specs.Choice.{firstMet}
 use Rattle.model.specs.declared.Phase.{Phase}
 use Rattle.model.specs.declared.Phase.the-variants.{Filling, Committing, WritingBack, Recovering}
 use Rattle.model.specs.declared.State.{State}
-use Rattle.model.specs.State.{Verdict, passed, refused}
+use Rattle.model.specs.State.{Verdict, passed}
 use Rattle.model.specs.Layout.{sectionSize}
 use Rattle.model.specs.Section.{Entry}
 use Rattle.model.specs.Store.{afterEffect, Place, storeOf}
@@ -20,7 +21,7 @@ use Rattle.model.proofs.Replays.{Which, isTrue, isFalse, which}
 use Rattle.volume_state.specs.VolumeState.{encodeOf, decodeOf, encodesState}
 use Rattle.buffers.specs.Done.{done}
 use Rattle.replies.specs.Replies.{answerSize, stepReply}
-use Rattle.step_calls.specs.Steps.{stepCall}
+use Rattle.step_calls.specs.Steps.{RefusedStepKeeps, stepCall}
 use Rattle.volume_state.proofs.VolumeStateBytes.{encode-decode}
 
 -- ---- step
@@ -51,11 +52,11 @@ module _ (d : State) (v st : List ℕ) where
 
   step-by : (x : Verdict) → stepReply (stepBy d v st x .answer) 0 0 .number ≢ done
       → (encodeOf (stepBy d v st x .state) ≡ encodeOf d) × (afterEffect v (stepBy d v st x .effect) ≡ v) × (stepBy d v st x .staging ≡ st)
-  step-by passed h = absurd (h (steps (d .phase)))
+  step-by (taken y) h = absurd (h (steps (d .phase)))
   step-by (refused r) h = (refl, refl, refl)
 
 module _ (s v st a : List ℕ) (bytes : Bytes s) where
-  pub step-refused : stepCall s v st a .number ≢ done
+  step-refused : stepCall s v st a .number ≢ done
       → (stepCall s v st a .state ≡ s) × (stepCall s v st a .volume ≡ v) × (stepCall s v st a .staging ≡ st)
   unfolding stepCall stepOf
   step-refused = go (which (eqb (length a) answerSize)) (which (encodesState s))
@@ -69,3 +70,6 @@ module _ (s v st a : List ℕ) (bytes : Bytes s) where
           (λ h.
           let kept = step-by (decodeOf s) v st (firstMet (stepRows (decodeOf s) v st) passed) h in
           (kept .0 ∙ encode-decode s bytes f, kept .1, kept .2))
+
+pub refused-step-keeps : RefusedStepKeeps
+refused-step-keeps = step-refused

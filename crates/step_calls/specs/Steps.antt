@@ -7,20 +7,24 @@
 -- advanceCall s v st n a    : what gaffreel_volume_advance leaves, for n steps
 -- nextStoreLeaves out o     : what gaffreel_volume_next_store leaves where the model's next store has the result o, and the sector's buffer held out
 -- nextStoreCall s v st out a : what it leaves of the state's buffer s, staging st, the sector's buffer out and the answer's buffer a; v is only read
+-- RefusedStepKeeps          : a step that is refused leaves every buffer but the answer's as it was
 use Prim.Native.Nat.{ℕ}
 use mathlib.Core.Bool.{not}
 use mathlib.Core.List.{List, [], _∷_}
+use mathlib.Core.Logic.{_≢_}
+use mathlib.Core.Path.{_≡_}
 use lib.ListN.{length}
+use Rattle.octets.specs.Numbers.{Bytes}
+use Rattle.octets.specs.Answer.{refusal}
 use Rattle.octets.specs.Choice.{pick, firstMet}
-use Rattle.model.specs.declared.Refusal.the-variants.{Malformed}
-use Rattle.model.specs.Refusal.{numberOf}
 use Rattle.model.specs.Store.{afterEffect, contentOf}
 use Rattle.model.specs.Step.{StepResult, stepOf}
 use Rattle.model.specs.NextStore.{nextStoreOf}
 use Rattle.model.specs.Advance.{AdvanceResult, advanceOf}
 use Rattle.replies.specs.declared.Reply.{Reply}
+use Rattle.buffers.specs.Done.{done}
 use Rattle.volume_state.specs.VolumeState.{encodeOf, decodeOf, encodesState}
-use Rattle.replies.specs.Replies.{answerSize, answerBytesOf, refusal, stepReply}
+use Rattle.replies.specs.Replies.{answerSize, answerBytesOf, refusedReply, stepReply}
 use Rattle.digest_calls.specs.Outcome.{wrongLength, differs}
 
 -- ---- step and advance
@@ -51,7 +55,7 @@ unfoldable pub stepCall : List ℕ → List ℕ → List ℕ → List ℕ → St
 stepCall s v st a =
     firstMet
     ((differs (length a) answerSize, stepRefused wrongLength s v st a) ∷
-    (not (encodesState s), stepRefused (numberOf Malformed) s v st (answerBytesOf (refusal Malformed))) ∷
+    (not (encodesState s), stepRefused 1 s v st (answerBytesOf (refusedReply (refusal 1 [])))) ∷
     [])
     (stepLeaves v (stepOf (decodeOf s) v st))
 
@@ -74,7 +78,7 @@ unfoldable pub advanceCall : List ℕ → List ℕ → List ℕ → ℕ → List
 advanceCall s v st n a =
     firstMet
     ((differs (length a) answerSize, stepRefused wrongLength s v st a) ∷
-    (not (encodesState s), stepRefused (numberOf Malformed) s v st (answerBytesOf (refusal Malformed))) ∷
+    (not (encodesState s), stepRefused 1 s v st (answerBytesOf (refusedReply (refusal 1 [])))) ∷
     [])
     (advanceLeaves (advanceOf n (decodeOf s) v st))
 
@@ -106,6 +110,14 @@ unfoldable pub nextStoreCall : List ℕ → List ℕ → List ℕ → List ℕ �
 nextStoreCall s v st out a =
     firstMet
     ((differs (length a) answerSize, nextStoreRefused wrongLength s st out a) ∷
-    (not (encodesState s), nextStoreRefused (numberOf Malformed) s st out (answerBytesOf (refusal Malformed))) ∷
+    (not (encodesState s), nextStoreRefused 1 s st out (answerBytesOf (refusedReply (refusal 1 [])))) ∷
     [])
     (nextStoreLeaves out (nextStoreOf (decodeOf s) v st out))
+
+-- ---- "After a refusal the state and all loans are unchanged": a step that answers another number than that of a call carried out leaves every buffer but
+-- the answer's as it was. Of several steps, those before the refused one stay made. The proof is in proofs/Refusals.
+
+abbrev pub RefusedStepKeeps : Type 0
+RefusedStepKeeps =
+    (s v st a : List ℕ) → Bytes s → stepCall s v st a .number ≢ done
+    → (stepCall s v st a .state ≡ s) × (stepCall s v st a .volume ≡ v) × (stepCall s v st a .staging ≡ st)

@@ -1,14 +1,16 @@
 use mathlib.Core.Path.{sym, ap, _∙_}
-use Rattle.replies.specs.Replies.{formatReply}
+use Rattle.model.specs.declared.FormatAnswer.{FormatAnswer}
+use Rattle.model.specs.Refusal.{formatAnswer}
+use Rattle.replies.specs.Replies.{plainReply}
 use borrow.Author.Needs.{needs}
 use Rattle.replies.proofs.format_reply.Statement.{statement}
 use Rattle.replies.proofs.format_reply.Tie as tie
 
 returns : tie.Need-returns
-returns c = c .carried-out .ensures ∙ sym (ap formatReply (c .before .enum-told .given .1))
+returns c = c .carried-out .ensures ∙ sym (ap (λ (x : FormatAnswer). plainReply (formatAnswer x)) (c .before .enum-told .given .1))
 
 returns-2 : tie.Need-returns-2
-returns-2 c = c .refused .ensures ∙ sym (ap formatReply (c .before .before .a .given .1))
+returns-2 c = c .refused .ensures ∙ sym (ap (λ (x : FormatAnswer). plainReply (formatAnswer x)) (c .before .before .a .given .1))
 
 pub format-reply-spec : {M : Type 1} → statement M
 format-reply-spec =

@@ -1,12 +1,13 @@
 use mathlib.Core.Path.{sym, ap, _∙_}
 use Rattle.model.specs.declared.OpenAnswer.{OpenAnswer}
+use Rattle.model.specs.Refusal.{openAnswer}
 use Rattle.replies.specs.Replies.{openedBytes}
 use borrow.Author.Needs.{needs}
 use Rattle.replies.proofs.put_opened.Statement.{statement}
 use Rattle.replies.proofs.put_opened.Tie as tie
 
 returns : tie.Need-returns
-returns c = c .before .before .encode .ensures ∙ sym (ap (λ (x : OpenAnswer). openedBytes x (c .before .before .before .before .before .before .before .before .args .buffer .now)) (c .before .before .before .before .before .a .given .1))
+returns c = c .before .before .encode .ensures ∙ sym (ap (λ (x : OpenAnswer). openedBytes (openAnswer x) (c .before .before .before .before .before .before .before .before .args .buffer .now)) (c .before .before .before .before .before .a .given .1))
 
 pub put-opened-spec : {M : Type 1} → statement M
 put-opened-spec =

@@ -1,14 +1,16 @@
 use mathlib.Core.Path.{sym, ap, _∙_}
+use Rattle.model.specs.declared.QueryAnswer.{QueryAnswer}
+use Rattle.model.specs.Refusal.{queryAnswer}
 use Rattle.replies.specs.Replies.{queryReply}
 use borrow.Author.Needs.{needs}
 use Rattle.replies.proofs.query_reply.Statement.{statement}
 use Rattle.replies.proofs.query_reply.Tie as tie
 
 returns : tie.Need-returns
-returns c = c .carried-out .ensures ∙ sym (ap queryReply (c .before .before .a .given .1))
+returns c = c .carried-out .ensures ∙ sym (ap (λ (x : QueryAnswer). queryReply (queryAnswer x)) (c .before .before .a .given .1))
 
 returns-2 : tie.Need-returns-2
-returns-2 c = c .refused .ensures ∙ sym (ap queryReply (c .before .before .a2 .given .1))
+returns-2 c = c .refused .ensures ∙ sym (ap (λ (x : QueryAnswer). queryReply (queryAnswer x)) (c .before .before .a2 .given .1))
 
 pub query-reply-spec : {M : Type 1} → statement M
 query-reply-spec =

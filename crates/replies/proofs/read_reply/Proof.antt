@@ -1,14 +1,16 @@
 use mathlib.Core.Path.{sym, ap, _∙_}
-use Rattle.replies.specs.Replies.{readReply}
+use Rattle.model.specs.declared.ReadAnswer.{ReadAnswer}
+use Rattle.model.specs.Refusal.{readAnswer}
+use Rattle.replies.specs.Replies.{plainReply}
 use borrow.Author.Needs.{needs}
 use Rattle.replies.proofs.read_reply.Statement.{statement}
 use Rattle.replies.proofs.read_reply.Tie as tie
 
 returns : tie.Need-returns
-returns c = c .carried-out .ensures ∙ sym (ap readReply (c .before .enum-told .given .1))
+returns c = c .carried-out .ensures ∙ sym (ap (λ (x : ReadAnswer). plainReply (readAnswer x)) (c .before .enum-told .given .1))
 
 returns-2 : tie.Need-returns-2
-returns-2 c = c .refused .ensures ∙ sym (ap readReply (c .before .before .a .given .1))
+returns-2 c = c .refused .ensures ∙ sym (ap (λ (x : ReadAnswer). plainReply (readAnswer x)) (c .before .before .a .given .1))
 
 pub read-reply-spec : {M : Type 1} → statement M
 read-reply-spec =

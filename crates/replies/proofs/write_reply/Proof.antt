@@ -1,14 +1,16 @@
 use mathlib.Core.Path.{sym, ap, _∙_}
-use Rattle.replies.specs.Replies.{writeReply}
+use Rattle.model.specs.declared.WriteAnswer.{WriteAnswer}
+use Rattle.model.specs.Refusal.{writeAnswer}
+use Rattle.replies.specs.Replies.{plainReply}
 use borrow.Author.Needs.{needs}
 use Rattle.replies.proofs.write_reply.Statement.{statement}
 use Rattle.replies.proofs.write_reply.Tie as tie
 
 returns : tie.Need-returns
-returns c = c .carried-out .ensures ∙ sym (ap writeReply (c .before .enum-told .given .1))
+returns c = c .carried-out .ensures ∙ sym (ap (λ (x : WriteAnswer). plainReply (writeAnswer x)) (c .before .enum-told .given .1))
 
 returns-2 : tie.Need-returns-2
-returns-2 c = c .refused .ensures ∙ sym (ap writeReply (c .before .before .a .given .1))
+returns-2 c = c .refused .ensures ∙ sym (ap (λ (x : WriteAnswer). plainReply (writeAnswer x)) (c .before .before .a .given .1))
 
 pub write-reply-spec : {M : Type 1} → statement M
 write-reply-spec =
