@@ -10,8 +10,8 @@ use native.Mathlib.Decide.{ℕ-discrete}
 use lib.ListN.{length}
 use lib.Dec.{eqb}
 use borrow.Author.Tests.{eqb-true, eq-eqb, ne-eqb, lt-ltb, leb-false}
-use Rattle.octets.specs.Choice.{pick, firstMet, Unmet}
-use Rattle.octets.proofs.Choice.{unmet}
+use Rattle.octets.specs.Choice.{pick, firstMet}
+use Rattle.octets.proofs.Choice.{Unmet, unmet}
 use Rattle.model.specs.Layout.{entryCount, sectionSize}
 use Rattle.model.specs.Section.{Entry, entryOf, putEntry}
 use Rattle.model.specs.Tag.{Tag}

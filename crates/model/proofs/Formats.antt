@@ -20,8 +20,8 @@ use Rattle.model.specs.Superblock.{superblockOf, superblockAt}
 use Rattle.model.proofs.Sections.{length-collect, part-collect}
 use Rattle.model.specs.Tag.{Tag, tagAt}
 use Rattle.model.specs.State.{volumeLoanOk, Verdict, passed}
-use Rattle.octets.specs.Choice.{firstMet, Unmet}
-use Rattle.octets.proofs.Choice.{unmet}
+use Rattle.octets.specs.Choice.{firstMet}
+use Rattle.octets.proofs.Choice.{Unmet, unmet}
 use Rattle.model.specs.declared.FormatAnswer.the-variants.{Formatted, Refused}
 use Rattle.model.specs.Format.{zeros, freshTags, freshRun, lastRun, lastLength, freshVolume, formatRows, formatBy, formatOf}
 use Rattle.model.proofs.Batches.{refused-not, Seen, isPassed, isRefused, seen, not-not}

@@ -4,3 +4,4 @@ pub mod Slices
 pub mod Sectors
 pub mod Choice
 pub mod Turns
+pub mod Answers

@@ -12,10 +12,11 @@
 -- digestAt h m i    : in bytes from the tree's start, where the digest of block i of m stands, h levels being above the level that it stands in
 -- placesOf h m i    : in bytes from the tree's start, where the digests along the path of block i of m stand, the lowest first, one in each of h levels
 -- treeLength n      : in bytes, the tree over n data blocks
+-- lengthOf n        : the same for any count; 0 where n is out of range, so that there is no such tree
 use Prim.Native.Nat.{ℕ, zero, suc, _+_, _-_, _*_, _/_}
 use mathlib.Core.List.{List, [], _∷_}
-use lib.Dec.{ltb}
-use Rattle.octets.specs.Choice.{pick}
+use lib.Dec.{eqb, ltb}
+use Rattle.octets.specs.Choice.{pick, firstMet}
 
 -- ---- sizes and limits
 
@@ -79,3 +80,6 @@ placesOf (suc h) m i = digestAt h m i ∷ placesOf h (parentsOf m) (i / digestsP
 
 abbrev pub treeLength : ℕ → ℕ
 treeLength n = hashBlocksOf (levelsOf n) n * blockSize
+
+unfoldable pub lengthOf : ℕ → ℕ
+lengthOf n = firstMet ((eqb n 0, 0) ∷ (ltb mostBlocks n, 0) ∷ []) (treeLength n)

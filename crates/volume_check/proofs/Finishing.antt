@@ -9,10 +9,10 @@ use native.Mathlib.Omega.{arith}
 use lib.Dec.{leb, ltb, eqb}
 use lib.ListN.{length, getD, replicate, length-replicate}
 use borrow.Author.Tests.{eq-eqb, ne-eqb, lt-ltb, le-leb, lt-leb, leb-false, ltb-false, not-false}
-use Rattle.octets.specs.Choice.{pick, firstMet, Unmet, NoneAnswers}
+use Rattle.octets.specs.Choice.{pick, firstMet}
 use Rattle.octets.specs.Parts.{same}
 use Rattle.octets.specs.Sectors.{sectorAt}
-use Rattle.octets.proofs.Choice.{passes, unmet, met}
+use Rattle.octets.proofs.Choice.{Unmet, NoneAnswers, passes, unmet, met}
 use Rattle.model.specs.declared.Layout.{Layout}
 use Rattle.model.specs.declared.OpenAnswer.the-variants.{Opened}
 use Rattle.model.specs.declared.Phase.{Phase}

@@ -7,9 +7,9 @@ use mathlib.Core.Path.{_≡_, refl, sym, ap, _∙_}
 use native.Mathlib.Omega.{arith}
 use lib.ListN.{length}
 use borrow.Author.Tests.{lt-ltb, le-ltb, ltb-false, not-false}
-use Rattle.octets.specs.Choice.{firstMet, Unmet, NoneAnswers}
+use Rattle.octets.specs.Choice.{firstMet}
 use Rattle.octets.specs.Parts.{same}
-use Rattle.octets.proofs.Choice.{unmet}
+use Rattle.octets.proofs.Choice.{Unmet, NoneAnswers, unmet}
 use Rattle.model.specs.declared.Layout.{Layout}
 use Rattle.model.specs.declared.QueryAnswer.{QueryAnswer}
 use Rattle.model.specs.declared.QueryAnswer.the-variants.{Holds, Refused}
