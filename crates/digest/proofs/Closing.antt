@@ -20,7 +20,7 @@ use Rattle.digest.specs.declared.Updated.{Updated}
 use Rattle.digest.specs.Answer.{answerOf}
 use Rattle.digest.specs.Pieces.{limit, freshOf, absorbOf, UpdateOutcome, updated, refusedPieceOf, updateOf, DigestOutcome, refusedDigestOf, closeOf, finishOf, digestOf}
 use Rattle.digest.specs.Sha256.{sha256}
-use Rattle.digest.specs.Sha256.Promise.{update-taken, update-refused, update-append, closing, digest-taken}
+use Rattle.digest.specs.Sha256.Promise.{update-taken, update-refused, count-absorb, update-append, closing, digest-taken}
 use Rattle.digest.specs.Padding.{zeroBytesOf, paddingOf, bytesOf}
 
 -- ---- the padding
@@ -54,10 +54,6 @@ bytes-turn h out b r i l fits e eb er =
     rw (er, part-all b 4 size, end, take-patch out (4 * i) b (omega arith), add-one, take-suc h i 0 l, bytes-append, bytes-one, e, eb)
 
 -- ---- the calls, a way through each at a time
-
-count-absorb : (s : State) (p : List ℕ) → absorbOf s p .count ≡ s .count + length p
-unfolding absorbOf
-count-absorb s p = refl
 
 pub closed : (s a : State) (l r : List ℕ) → l ≡ paddingOf (s .count) → a ≡ absorbOf s l → r ≡ bytesOf (a .words) → r ≡ closeOf s
 unfolding closeOf

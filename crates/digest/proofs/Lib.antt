@@ -2,4 +2,3 @@
 pub mod Theorems
 mod Absorb
 mod Closing
-pub mod Padding

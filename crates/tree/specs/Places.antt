@@ -6,7 +6,6 @@
 -- parentsOf m       : in blocks, the hash blocks that hold the digests of m blocks
 -- levelsAbove f m   : in levels, those that lead from m blocks to one; f bounds the search, and any f of at least m is enough
 -- levelsOf n        : in levels, the tree over n data blocks
--- topOf h m         : in blocks, the highest of h levels above m blocks; the m blocks themselves where h is 0
 -- hashBlocksOf h m  : in blocks, all of h levels above m blocks
 -- firstBlockOf h m  : in blocks from the tree's start, where the level right above m blocks begins, h levels being above that level
 -- digestAt h m i    : in bytes from the tree's start, where the digest of block i of m stands, h levels being above the level that it stands in
@@ -56,10 +55,6 @@ levelsAbove (suc f) m = pick (ltb 1 m) (suc (levelsAbove f (parentsOf m))) 0
 -- one data block still has one hash block
 unfoldable pub levelsOf : ℕ → ℕ
 levelsOf n = suc (levelsAbove n (parentsOf n))
-
-unfoldable pub topOf : ℕ → ℕ → ℕ
-topOf zero m = m
-topOf (suc h) m = topOf h (parentsOf m)
 
 unfoldable pub hashBlocksOf : ℕ → ℕ → ℕ
 hashBlocksOf zero m = 0

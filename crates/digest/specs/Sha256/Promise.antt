@@ -15,7 +15,7 @@ use Rattle.compression.specs.Compression.{hashOf}
 use Rattle.digest.specs.Padding.{paddingOf, bytesOf}
 use Rattle.digest.specs.Pieces.{limit, freshOf, absorbOf, refusedPieceOf, updateOf, closeOf, finishOf, digestOf}
 use Rattle.digest.specs.Sha256.{sha256, paddedOf}
-use Rattle.digest.specs.Sha256.Laws.{length-hash, length-bytesOf, bytes-bytesOf, absorb-append, count-absorb, words-absorb, fresh-holds-nothing}
+use Rattle.digest.specs.Sha256.Laws.{length-hash, length-bytesOf, bytes-bytesOf, absorb-append, words-absorb, fresh-holds-nothing}
 
 -- ---- the digest's bytes
 
@@ -40,6 +40,11 @@ update-taken s p fits = rw (le-ltb limit (s .count + length p) fits)
 pub update-refused : (s : State) (p : List ℕ) → limit < s .count + length p → updateOf s p ≡ refusedPieceOf s
 unfolding updateOf
 update-refused s p past = rw (lt-ltb limit (s .count + length p) past)
+
+-- the count of what was added
+pub count-absorb : (s : State) (p : List ℕ) → absorbOf s p .count ≡ s .count + length p
+unfolding absorbOf
+count-absorb s p = refl
 
 -- two pieces that fit together are as the one that they make
 pub update-append : (s : State) (p q : List ℕ) → length (s .tail) ≡ 64 → s .count + length (p ++ q) ≤ limit
