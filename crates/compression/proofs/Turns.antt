@@ -1,12 +1,13 @@
 -- One turn of the loops over the message schedule and the rounds, over plain lists.
-use mathlib.Core.Path.{_≡_, sym, _∙_}
-use mathlib.Core.List.{List}
-use Prim.Native.Nat.{ℕ, _+_, _-_, _≤_, _<_}
+use mathlib.Core.Path.{_≡_, refl, sym, ap, _∙_}
+use mathlib.Core.List.{List, [], _∷_, _++_, append-assoc}
+use Prim.Native.Nat.{ℕ, zero, suc, _+_, _-_, _≤_, _<_}
 use native.Mathlib.Numerals.{add-one}
 use native.Mathlib.Omega.{arith}
 use borrow.Author.Tests.{lt-ltb, le-ltb}
-use lib.ListN.{length, getD, take, set}
-use lib.Seq.{take-suc-set, getD-take}
+use lib.ListN.{length, getD, take, drop, set, replicate, length-append, length-replicate}
+use lib.Seq.{take-suc-set, getD-take, take-at, drop-append-add, set-split}
+use Rattle.octets.proofs.Parts.{drop-replicate}
 use Rattle.compression.specs.declared.Variables.{Variables}
 use Rattle.compression.specs.Constants.{K}
 use Rattle.compression.specs.Words.{_⊞_, σ₀, σ₁}
@@ -17,10 +18,41 @@ schedule-step : (b w : List ℕ) (t x : ℕ) → t < length w → take t w ≡ s
 unfolding scheduleOf
 schedule-step b w t x l e n = rw (add-one, take-suc-set, n, e)
 
--- a word of the block
-pub block-turn : (b w : List ℕ) (t x : ℕ) → t < 16 → t < length w → take t w ≡ scheduleOf t b → x ≡ wordOf b t → take (t + 1) (set w t x) ≡ scheduleOf (t + 1) b
-unfolding nextOf
-block-turn b w t x l m e n = schedule-step b w t x m e (n ∙ rw (lt-ltb t 16 l))
+pub length-schedule : (t : ℕ) (b : List ℕ) → length (scheduleOf t b) ≡ t
+unfolding scheduleOf
+length-schedule zero b = refl
+length-schedule (suc t) b = rw (length-append, length-schedule t b) (omega arith)
+
+-- a word of the block, put in the place of a zero
+module _ (b w : List ℕ) (t x : ℕ) (l : t < 16) (e : w ≡ scheduleOf t b ++ replicate (64 - t) 0) (n : x ≡ wordOf b t) where
+  word : x ≡ nextOf b (scheduleOf t b) t
+  unfolding nextOf
+  word = n ∙ rw (lt-ltb t 16 l)
+
+  inside : t < length (scheduleOf t b ++ replicate (64 - t) 0)
+  inside = rw (length-append, length-replicate, length-schedule t b) (omega arith)
+
+  behind : drop (suc t) (scheduleOf t b ++ replicate (64 - t) 0) ≡ replicate (64 - suc t) 0
+  behind =
+      let at : suc t ≡ length (scheduleOf t b) + 1 = omega (arith, length-schedule t b) in
+      let left : 64 - t - 1 ≡ 64 - suc t = omega arith in
+      ap (λ (k : ℕ). drop k (scheduleOf t b ++ replicate (64 - t) 0)) at
+      ∙ drop-append-add (scheduleOf t b) (replicate (64 - t) 0) 1
+      ∙ drop-replicate 1 (64 - t) 0 (omega arith)
+      ∙ ap (λ (k : ℕ). replicate k 0) left
+
+  pub block-turn : set w t x ≡ scheduleOf (t + 1) b ++ replicate (64 - (t + 1)) 0
+  unfolding scheduleOf
+  block-turn =
+      rw (add-one t)
+      (ap (λ (k : List ℕ). set k t x) e
+      ∙ set-split (scheduleOf t b ++ replicate (64 - t) 0) t x inside
+      ∙ rw (take-at (scheduleOf t b) (replicate (64 - t) 0) t (length-schedule t b), behind, word)
+      (sym (append-assoc (scheduleOf t b) (nextOf b (scheduleOf t b) t ∷ []) (replicate (64 - suc t) 0))))
+
+-- the words of the block, before the zeros
+pub block-front : (b w : List ℕ) → w ≡ scheduleOf 16 b ++ replicate 48 0 → take 16 w ≡ scheduleOf 16 b
+block-front b w e = rw e (take-at (scheduleOf 16 b) (replicate 48 0) 16 (length-schedule 16 b))
 
 next-earlier : (b w : List ℕ) (t : ℕ) → 16 ≤ t
     → nextOf b (take t w) t ≡ σ₁ (getD w (t - 2) 0) ⊞ getD w (t - 7) 0 ⊞ σ₀ (getD w (t - 15) 0) ⊞ getD w (t - 16) 0

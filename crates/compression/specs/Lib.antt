@@ -1,5 +1,6 @@
--- The definitions that the contracts cite, in the order of FIPS 180-4, and its examples.
+-- The definitions that the contracts cite, in the order of FIPS 180-4, what is proved beyond these, and examples.
 pub mod Words
 pub mod Constants
 pub mod Compression
+pub mod Theorems
 pub mod Examples

@@ -3,8 +3,9 @@
 --
 -- x ⊞ y                    : the sum modulo 2 ^ 32 (3.2, operation 2)
 -- shr n x                  : SHR, the right shift by n bits (3.2, 3)
+-- shl n x                  : x << n, the left shift by n bits in a word (2.2.2)
 -- rotr n x                 : ROTR, the rotation right by n bits: the n low bits become the n high ones (3.2, 4). FIPS 180-4 and the code write it by
---                            two shifts and an or; `shifts-rotate` of proofs/Rotation shows the two equal at every distance
+--                            two shifts and an or; `ShiftsRotate` of Theorems has the two equal at every distance
 -- complement x             : every bit inverted (3.2, 1)
 -- Ch, Maj, Σ₀, Σ₁, σ₀, σ₁  : formulas (4.2) to (4.7)
 use Prim.Native.Nat.{ℕ, _+_, _-_, _*_, _/_, _%_, _^_}
@@ -16,6 +17,9 @@ _⊞_ x y = (x + y) % 2 ^ 32
 
 abbrev pub shr : ℕ → ℕ → ℕ
 shr n x = x / 2 ^ n
+
+abbrev pub shl : ℕ → ℕ → ℕ
+shl n x = (x * 2 ^ n) % 2 ^ 32
 
 unfoldable pub rotr : ℕ → ℕ → ℕ
 rotr n x = x % 2 ^ n * 2 ^ (32 - n) + x / 2 ^ n

@@ -5,8 +5,9 @@
 mod words;
 
 ghost use Prim.Native.Nat.{_<_, _+_, _*_};
+ghost use mathlib.Core.List.{_++_};
 ghost use mathlib.Core.Path.{_≡_};
-ghost use lib.ListN.{length, take};
+ghost use lib.ListN.{length, replicate};
 ghost use Rattle.compression.specs.Compression.{wordOf, scheduleOf, variablesOf, roundOf, roundsOf, addedOf, compressOf};
 
 // The round constants, section 4.2.2.
@@ -107,7 +108,7 @@ fn word(b: &[u8], t: usize) -> u32
 // The words of a block, with zeros in the place of the schedule's other words.
 fn block_words(b: &[u8]) -> [u32; 64]
     requires { ⌜ length (now b) ≡ 64 ⌝ }
-    ensures { λ r. ⌜ (take 16 r ≡ scheduleOf 16 (now (b .entry))) × (length r ≡ 64) ⌝ }
+    ensures { λ r. ⌜ (r ≡ scheduleOf 16 (now (b .entry)) ++ replicate 48 0) × (length r ≡ 64) ⌝ }
 {
     let mut w = [0u32; 64];
     let mut t: usize = 0;

@@ -9,6 +9,7 @@ use native.Mathlib.Decide.{decLe}
 use lib.ListN.{length, getD, take, set, replicate, length-append}
 use lib.Seq.{take-suc}
 use borrow.Author.Tests.{le-ltb, lt-ltb}
+use Rattle.octets.specs.Answer.{Answer, taken, numberIn, refuse}
 use Rattle.octets.specs.Numbers.{be}
 use Rattle.octets.specs.Parts.{part, patch}
 use Rattle.octets.proofs.Numbers.{length-be}
@@ -16,10 +17,10 @@ use Rattle.octets.proofs.Parts.{part-all, take-patch, take-replicate}
 use Rattle.digest.specs.declared.Answer.the-variants.{Taken, TooLong}
 use Rattle.digest.specs.declared.State.{State}
 use Rattle.digest.specs.declared.Updated.{Updated}
-use Rattle.digest.specs.declared.Closed.{Closed}
-use Rattle.digest.specs.Pieces.{limit, freshOf, absorbOf, refusedPieceOf, updateOf, refusedDigestOf, closeOf, finishOf, digestOf}
+use Rattle.digest.specs.Answer.{answerOf}
+use Rattle.digest.specs.Pieces.{limit, freshOf, absorbOf, UpdateOutcome, updated, refusedPieceOf, updateOf, DigestOutcome, refusedDigestOf, closeOf, finishOf, digestOf}
 use Rattle.digest.specs.Sha256.{sha256}
-use Rattle.digest.specs.Sha256.Promise.{update-taken, update-refused, update-append, closing, digest-taken}
+use Rattle.digest.specs.Sha256.Promise.{update-taken, update-refused, count-absorb, update-append, closing, digest-taken}
 use Rattle.digest.specs.Padding.{zeroBytesOf, paddingOf, bytesOf}
 
 -- ---- the padding
@@ -54,82 +55,78 @@ bytes-turn h out b r i l fits e eb er =
 
 -- ---- the calls, a way through each at a time
 
-count-absorb : (s : State) (p : List ℕ) → absorbOf s p .count ≡ s .count + length p
-unfolding absorbOf
-count-absorb s p = refl
-
 pub closed : (s a : State) (l r : List ℕ) → l ≡ paddingOf (s .count) → a ≡ absorbOf s l → r ≡ bytesOf (a .words) → r ≡ closeOf s
 unfolding closeOf
 closed s a l r el ea er = rw (er, ea, el)
 
-pub update-past : (s : State) (p : List ℕ) (u : Updated) → limit < s .count + length p → u ≡ refusedPieceOf s → u ≡ updateOf s p
+pub update-past : (s : State) (p : List ℕ) (u : UpdateOutcome) → limit < s .count + length p → u ≡ refusedPieceOf s → u ≡ updateOf s p
 update-past s p u h e = e ∙ sym (update-refused s p h)
 
-pub update-fits : (s t : State) (p : List ℕ) → s .count + length p ≤ limit → t ≡ absorbOf s p → record { answer = Taken; state = t } ≡ updateOf s p
+pub update-fits : (s t : State) (p : List ℕ) → s .count + length p ≤ limit → t ≡ absorbOf s p → record { answer = taken tt; state = t } ≡ updateOf s p
 update-fits s t p h e = rw (e, update-taken s p h)
 
-pub finish-past : (s : State) (r : Closed) → limit < s .count → r ≡ refusedDigestOf → r ≡ finishOf s
+pub finish-past : (s : State) (r : DigestOutcome) → limit < s .count → r ≡ refusedDigestOf → r ≡ finishOf s
 unfolding finishOf
 finish-past s r h e = rw (lt-ltb limit (s .count) h, e)
 
-pub finish-fits : (s : State) (d : List ℕ) → s .count ≤ limit → d ≡ closeOf s → record { answer = Taken; digest = d } ≡ finishOf s
+pub finish-fits : (s : State) (d : List ℕ) → s .count ≤ limit → d ≡ closeOf s → record { answer = taken tt; digest = d } ≡ finishOf s
 unfolding finishOf
 finish-fits s d h e = rw (le-ltb limit (s .count) h, e)
 
 -- what an answer says of the lengths
 
-answer-fits : (s : State) (p : List ℕ) → updateOf s p .answer ≡ Taken → s .count + length p ≤ limit
-answer-fits s p e = side (decLe (s .count + length p) limit)
-  where
-    side : Dec (s .count + length p ≤ limit) → s .count + length p ≤ limit
-    side (yes h) = h
-    side (no h) =
-        let z : TooLong ≡ Taken = sym (ap (λ (u : Updated). u .answer) (update-refused s p (omega arith))) ∙ e in
-        absurd (let z : _≡_ {A = ℕ} 0 1 = cc in omega arith)
+module _ (s : State) (p : List ℕ) (u : Updated) (e : updated u ≡ updateOf s p) where
+  answer-is : {o : UpdateOutcome} → updateOf s p ≡ o → numberIn (answerOf (u .answer)) ≡ numberIn (o .answer)
+  answer-is q = ap (λ (o : UpdateOutcome). numberIn (o .answer)) (e ∙ q)
 
-answer-past : (s : State) (p : List ℕ) → updateOf s p .answer ≡ TooLong → limit < s .count + length p
-answer-past s p e = side (decLe (s .count + length p) limit)
-  where
-    side : Dec (s .count + length p ≤ limit) → limit < s .count + length p
-    side (no h) = omega arith
-    side (yes h) =
-        let z : Taken ≡ TooLong = sym (ap (λ (u : Updated). u .answer) (update-taken s p h)) ∙ e in
-        absurd (let z : _≡_ {A = ℕ} 0 1 = cc in omega arith)
+  answer-fits : u .answer ≡ Taken → s .count + length p ≤ limit
+  answer-fits a = side (decLe (s .count + length p) limit)
+    where
+      side : Dec (s .count + length p ≤ limit) → s .count + length p ≤ limit
+      side (yes h) = h
+      side (no h) = absurd (let z : _≡_ {A = ℕ} 0 1 = rw a at (answer-is (update-refused s p (omega arith))) in omega arith)
 
-digest-past : (m : List ℕ) (r : Closed) → limit < length m → r ≡ refusedDigestOf → r ≡ digestOf m
+  answer-past : u .answer ≡ TooLong → limit < s .count + length p
+  answer-past a = side (decLe (s .count + length p) limit)
+    where
+      side : Dec (s .count + length p ≤ limit) → limit < s .count + length p
+      side (no h) = omega arith
+      side (yes h) = absurd (let z : _≡_ {A = ℕ} 1 0 = rw a at (answer-is (update-taken s p h)) in omega arith)
+
+digest-past : (m : List ℕ) (r : DigestOutcome) → limit < length m → r ≡ refusedDigestOf → r ≡ digestOf m
 unfolding digestOf
 digest-past m r h e = rw (lt-ltb limit (length m) h, e)
 
 -- a message in one piece
-module _ (m : List ℕ) (u : Updated) (r : Closed) (e : u ≡ updateOf freshOf m) where
+module _ (m : List ℕ) (u : Updated) (r : DigestOutcome) (e : updated u ≡ updateOf freshOf m) where
   pub whole-past : u .answer ≡ TooLong → r ≡ refusedDigestOf → r ≡ digestOf m
-  whole-past a = digest-past m r (rw zero-add at (answer-past freshOf m (rw e at a)))
+  whole-past a = digest-past m r (rw zero-add at (answer-past freshOf m u e a))
 
   pub whole-fits : u .answer ≡ Taken → r ≡ finishOf (u .state) → r ≡ digestOf m
   unfolding flatten
   whole-fits a er =
-      let fits : length m ≤ limit = rw zero-add at (answer-fits freshOf m (rw e at a)) in
+      let fits : length m ≤ limit = rw zero-add at (answer-fits freshOf m u e a) in
       let piece : flatten (m ∷ []) ≡ m = append-nil m in
-      er ∙ ap (λ (x : Updated). finishOf (x .state)) e ∙ closing (m ∷ []) (rw piece fits)
-      ∙ ap (λ (x : List ℕ). record { answer = Taken; digest = sha256 x }) piece ∙ sym (digest-taken m fits)
+      er ∙ ap (λ (x : UpdateOutcome). finishOf (x .state)) e ∙ closing (m ∷ []) (rw piece fits)
+      ∙ ap (λ (x : List ℕ). record { answer = taken tt; digest = sha256 x }) piece ∙ sym (digest-taken m fits)
 
 -- a message in two pieces
-module _ (p q : List ℕ) (u v : Updated) (r : Closed) (e : u ≡ updateOf freshOf p) where
+module _ (p q : List ℕ) (u v : Updated) (r : DigestOutcome) (e : updated u ≡ updateOf freshOf p) where
   pub first-past : u .answer ≡ TooLong → r ≡ refusedDigestOf → r ≡ digestOf (p ++ q)
-  first-past a = digest-past (p ++ q) r (omega (arith, rw zero-add at (answer-past freshOf p (rw e at a)), length-append p q))
+  first-past a = digest-past (p ++ q) r (omega (arith, rw zero-add at (answer-past freshOf p u e a), length-append p q))
 
-  module _ (taken : u .answer ≡ Taken) (f : v ≡ updateOf (u .state) q) where
+  module _ (fitted : u .answer ≡ Taken) (f : updated v ≡ updateOf (u .state) q) where
     state : u .state ≡ absorbOf freshOf p
-    state = ap (λ (x : Updated). x .state) (e ∙ update-taken freshOf p (answer-fits freshOf p (rw e at taken)))
+    state = ap (λ (x : UpdateOutcome). x .state) (e ∙ update-taken freshOf p (answer-fits freshOf p u e fitted))
 
     total : u .state .count + length q ≡ length (p ++ q)
     total = ap (λ (s : State). s .count + length q) state ∙ rw (count-absorb freshOf p, zero-add, length-append)
 
     pub both-past : v .answer ≡ TooLong → r ≡ refusedDigestOf → r ≡ digestOf (p ++ q)
-    both-past a = digest-past (p ++ q) r (rw total at (answer-past (u .state) q (rw f at a)))
+    both-past a = digest-past (p ++ q) r (rw total at (answer-past (u .state) q v f a))
 
     pub both-fit : v .answer ≡ Taken → r ≡ finishOf (v .state) → r ≡ digestOf (p ++ q)
     both-fit a =
-        let fits : length (p ++ q) ≤ limit = rw total at (answer-fits (u .state) q (rw f at a)) in
-        let all : v ≡ updateOf freshOf (p ++ q) = f ∙ ap (λ (x : Updated). updateOf (x .state) q) e ∙ update-append freshOf p q refl (rw zero-add fits) in
+        let fits : length (p ++ q) ≤ limit = rw total at (answer-fits (u .state) q v f a) in
+        let all : updated v ≡ updateOf freshOf (p ++ q) = f ∙ ap (λ (x : UpdateOutcome). updateOf (x .state) q) e ∙ update-append freshOf p q refl (rw zero-add fits) in
         whole-fits (p ++ q) v r all a

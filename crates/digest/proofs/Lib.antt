@@ -1,4 +1,4 @@
--- Laws that the proofs of the functions cite.
-pub mod Absorb
-pub mod Closing
-pub mod Padding
+-- Theorems has the proofs of specs/Theorems; the others are what the proofs of the functions cite.
+pub mod Theorems
+mod Absorb
+mod Closing

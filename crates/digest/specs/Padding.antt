@@ -1,7 +1,7 @@
 -- Padding and the bytes of a digest: FIPS 180-4, sections 5.1.1 and 6.2.2, for messages of whole bytes.
 --
--- zeroBytesOf c  : how many zero bytes stand between the byte 0x80 and the length, for a message of c bytes: the least z with c + 1 + z ≡ 56 (mod 64).
---                  In bits that is the least k with l + 1 + k ≡ 448 (mod 512) of the standard, where l = 8 c and k = 8 z + 7
+-- zeroBytesOf c  : how many zero bytes stand between the byte 0x80 and the length, for a message of c bytes: the least z with c + 1 + z ≡ 56 (mod 64);
+--                  Theorems has it as the standard's least number of zero bits
 -- paddingOf c    : what is appended to a message of c bytes: a one bit, zeros, and the message's length in bits in 8 bytes
 -- bytesOf h      : the digest, the words of a hash value one after the other, each with its most significant byte first
 use Prim.Native.Nat.{ℕ, _-_, _*_, _%_}

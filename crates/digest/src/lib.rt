@@ -6,7 +6,9 @@ mod pieces;
 
 ghost use mathlib.Core.Path.{_≡_};
 ghost use mathlib.Core.List.{_++_};
-ghost use Rattle.digest.specs.Pieces.{numberOf, freshOf, refusedPieceOf, updateOf, refusedDigestOf, finishOf, digestOf};
+ghost use Rattle.octets.specs.Answer.{numberIn};
+ghost use Rattle.digest.specs.Answer.{answerOf};
+ghost use Rattle.digest.specs.Pieces.{freshOf, updated, refusedPieceOf, updateOf, closed, refusedDigestOf, finishOf, digestOf};
 
 // A digest in the making: the hash value of the whole blocks so far, the unfinished block, and how many bytes there were in all.
 // Any value of it may be handed in.
@@ -16,6 +18,7 @@ pub struct State {
     pub count: u64,
 }
 
+// How a call ends; specs/Answer.antt has document 01's number and values of each.
 pub enum Answer {
     // The call was carried out.
     Taken,
@@ -40,7 +43,7 @@ const LIMIT: u64 = 2305843009213693951;
 
 // The number of an answer in document 01; 0 where it is no refusal.
 pub fn number(a: Answer) -> u32
-    ensures { λ r. ⌜ r ≡ numberOf a ⌝ }
+    ensures { λ r. ⌜ r ≡ numberIn (answerOf a) ⌝ }
 {
     match a {
         Answer::Taken => 0,
@@ -70,7 +73,7 @@ pub fn fresh() -> State
 
 // The refusal of a piece: the state is as it was.
 fn refused_piece(s: State) -> Updated
-    ensures { λ r. ⌜ r ≡ refusedPieceOf s ⌝ }
+    ensures { λ r. ⌜ updated r ≡ refusedPieceOf s ⌝ }
 {
     Updated {
         answer: Answer::TooLong,
@@ -80,7 +83,7 @@ fn refused_piece(s: State) -> Updated
 
 // A piece added. Refused where the total would pass the limit.
 pub fn update(s: State, piece: &[u8]) -> Updated
-    ensures { λ r. ⌜ r ≡ updateOf s (now (piece .entry)) ⌝ }
+    ensures { λ r. ⌜ updated r ≡ updateOf s (now (piece .entry)) ⌝ }
 {
     let count = s.count;
     if LIMIT < count {
@@ -98,7 +101,7 @@ pub fn update(s: State, piece: &[u8]) -> Updated
 
 // The refusal of a digest.
 fn refused_digest() -> Closed
-    ensures { λ r. ⌜ r ≡ refusedDigestOf ⌝ }
+    ensures { λ r. ⌜ closed r ≡ refusedDigestOf ⌝ }
 {
     Closed {
         answer: Answer::TooLong,
@@ -108,7 +111,7 @@ fn refused_digest() -> Closed
 
 // The digest of all the pieces. Refused where the state is past the limit.
 pub fn finish(s: State) -> Closed
-    ensures { λ r. ⌜ r ≡ finishOf s ⌝ }
+    ensures { λ r. ⌜ closed r ≡ finishOf s ⌝ }
 {
     if LIMIT < s.count {
         return refused_digest();
@@ -122,7 +125,7 @@ pub fn finish(s: State) -> Closed
 
 // The digest of a message that is lent whole.
 pub fn sha256(message: &[u8]) -> Closed
-    ensures { λ r. ⌜ r ≡ digestOf (now (message .entry)) ⌝ }
+    ensures { λ r. ⌜ closed r ≡ digestOf (now (message .entry)) ⌝ }
 {
     let all = update(fresh(), message);
     let answer = all.answer;
@@ -135,7 +138,7 @@ pub fn sha256(message: &[u8]) -> Closed
 
 // The digest of a message that is lent in two parts: a sector's number and its bytes, a salt and a block.
 pub fn sha256_of_two(first: &[u8], second: &[u8]) -> Closed
-    ensures { λ r. ⌜ r ≡ digestOf (now (first .entry) ++ now (second .entry)) ⌝ }
+    ensures { λ r. ⌜ closed r ≡ digestOf (now (first .entry) ++ now (second .entry)) ⌝ }
 {
     let one = update(fresh(), first);
     let answer = one.answer;

@@ -1,4 +1,4 @@
--- A state and its bytes: each state is read back from its bytes (decode-encode), and any 104 bytes are those of the state read from them (encode-decode).
+-- The theorems of specs/Theorems: a state and its bytes.
 use Prim.Native.Nat.{ℕ, _+_, _-_}
 use native.Mathlib.Omega.{arith}
 use mathlib.Core.List.{List, _++_}
@@ -11,6 +11,7 @@ use Rattle.octets.proofs.Numbers.{length-le, bytes-le, value-le, le-value, valu
 use Rattle.octets.proofs.Parts.{length-part, part-all, bytes-append, bytes-part}
 use Rattle.digest.specs.declared.State.{State}
 use Rattle.digest_state.specs.DigestState.{stateSize, tailAt, countAt, wordsOf, wordBytesOf, decodeOf, encodeOf, IsState}
+use Rattle.digest_state.specs.Theorems.{DecodeEncode, EncodeBytes, EncodeDecode, DecodeState}
 use Rattle.buffers.proofs.NumberBytes.{part-behind, length-number-bytes, bytes-number-bytes, numbers-of-bytes, bytes-of-numbers, length-numbers, numbers-below}
 
 module _ (s : State) (v : IsState s) where
@@ -46,17 +47,14 @@ module _ (s : State) (v : IsState s) where
       ∙ part-all (le 8 (s .count)) 8 (length-le 8 (s .count)))
       ∙ value-le 8 (s .count) (v .count)
 
--- every state is read back from its bytes
-pub decode-encode : (s : State) → IsState s → decodeOf (encodeOf s) ≡ s
+pub decode-encode : DecodeEncode
 unfolding decodeOf
 decode-encode s v = rw (words-back s v, tail-back s v, count-back s v)
 
--- which are as many as a state has
-pub encode-bytes : (s : State) → IsState s → (length (encodeOf s) ≡ stateSize) × Bytes (encodeOf s)
+pub encode-bytes : EncodeBytes
 encode-bytes s v = (length-of-state s v, bytes-of-state s v)
 
--- every 104 bytes are those of the state read from them
-pub encode-decode : (b : List ℕ) → Bytes b → length b ≡ stateSize → encodeOf (decodeOf b) ≡ b
+pub encode-decode : EncodeDecode
 unfolding encodeOf decodeOf
 encode-decode b h l =
     let size : length (part b countAt 8) ≡ 8 = length-part b countAt 8 (omega arith) in
@@ -65,8 +63,7 @@ encode-decode b h l =
     let behind : part b tailAt 64 ++ drop countAt b ≡ drop tailAt b = rw (drop-drop 64 tailAt b) at (take-append-drop 64 (drop tailAt b)) in
     rw (bytes-of-numbers 4 8 b h (omega arith), count, last, behind) (take-append-drop tailAt b)
 
--- and that is a state
-pub decode-state : (b : List ℕ) → Bytes b → length b ≡ stateSize → IsState (decodeOf b)
+pub decode-state : DecodeState
 unfolding decodeOf
 decode-state b h l =
     let size : length (part b countAt 8) ≡ 8 = length-part b countAt 8 (omega arith) in

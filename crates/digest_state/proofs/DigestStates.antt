@@ -2,18 +2,18 @@
 use Prim.Native.Nat.{ℕ, _+_, _*_, _≤_, _<_}
 use native.Mathlib.Numerals.{add-one}
 use native.Mathlib.Omega.{arith}
-use mathlib.Core.List.{List, _++_, append-assoc}
-use mathlib.Core.Path.{_≡_, sym, ap, _∙_}
+use mathlib.Core.List.{List, [], _++_, append-assoc}
+use mathlib.Core.Path.{_≡_, refl, sym, ap, _∙_}
 use lib.ListN.{length, getD, take, set, replicate}
-use lib.Seq.{take-suc, take-suc-set, take-all}
+use lib.Seq.{take-suc, take-suc-set, take-all, length-take-le}
 use Rattle.octets.specs.Numbers.{le, value}
 use Rattle.octets.specs.Parts.{part, patch}
 use Rattle.octets.proofs.Numbers.{length-le}
-use Rattle.octets.proofs.Parts.{length-part, length-patch, take-patch, patch-all}
+use Rattle.octets.proofs.Parts.{length-part, length-patch, take-patch, patch-all, patch-join}
 use Rattle.digest.specs.declared.State.{State}
 use Rattle.buffers.specs.Numbers.{numbersIn}
 use Rattle.digest_state.specs.DigestState.{stateSize, tailAt, countAt, wordsOf, wordBytesOf, decodeOf, encodeOf}
-use Rattle.buffers.proofs.NumberBytes.{number-bytes-last}
+use Rattle.buffers.proofs.NumberBytes.{length-number-bytes, number-bytes-last}
 
 -- ---- the loops over the words
 
@@ -26,19 +26,30 @@ read-turn b ws i x l e ex = rw (add-one, take-suc-set ws i x l, e, ex)
 front-patch : (l : List ℕ) (at : ℕ) (x y : List ℕ) (end : ℕ) → take at l ≡ x → at + length y ≡ end → end ≤ length l → take end (patch l at y) ≡ x ++ y
 front-patch l at x y end e q fits = rw (← q) (take-patch l at y (omega arith) ∙ ap (λ (r : List ℕ). r ++ y) e)
 
-pub put-turn : (ws b c : List ℕ) (i x : ℕ) → i < length ws → 4 * i + 4 ≤ length b → take (4 * i) b ≡ wordBytesOf (take i ws) → x ≡ getD ws i 0
-    → c ≡ patch b (4 * i) (le 4 x) → take (4 * (i + 1)) c ≡ wordBytesOf (take (i + 1) ws)
-put-turn ws b c i x l fits e ex ec =
+-- the next word, put behind the first i in the buffer that was a
+pub put-turn : (ws a b c : List ℕ) (i x : ℕ) → i < length ws → 4 * i + 4 ≤ length a → b ≡ patch a 0 (wordBytesOf (take i ws)) → x ≡ getD ws i 0
+    → c ≡ patch b (4 * i) (le 4 x) → c ≡ patch a 0 (wordBytesOf (take (i + 1) ws))
+put-turn ws a b c i x l fits e ex ec =
     let size : length (le 4 x) ≡ 4 = length-le 4 x in
-    rw (ec, front-patch b (4 * i) (wordBytesOf (take i ws)) (le 4 x) (4 * (i + 1)) e (omega arith) (omega arith), add-one, take-suc ws i 0 l, number-bytes-last, ex)
+    let front : length (wordBytesOf (take i ws)) ≡ 4 * i = rw (length-number-bytes 4 (take i ws), length-take-le i ws (omega arith)) in
+    let place : 4 * i ≡ 0 + length (wordBytesOf (take i ws)) = omega arith in
+    let last : wordBytesOf (take i ws) ++ le 4 x ≡ wordBytesOf (take (i + 1) ws) = rw (add-one, take-suc ws i 0 l, number-bytes-last, ex) in
+    ec
+    ∙ ap (λ (r : List ℕ). patch r (4 * i) (le 4 x)) e
+    ∙ ap (λ (k : ℕ). patch (patch a 0 (wordBytesOf (take i ws))) k (le 4 x)) place
+    ∙ patch-join a 0 (wordBytesOf (take i ws)) (le 4 x) (omega arith)
+    ∙ ap (patch a 0) last
 
 -- ---- a state put together, and taken apart
 
 -- words, tail and count, written one behind the other
-pub written : (s : State) (b c d : List ℕ) → length b ≡ stateSize → take tailAt b ≡ wordBytesOf (s .words) → length (s .tail) ≡ 64
-    → c ≡ patch b tailAt (s .tail) → d ≡ patch c countAt (le 8 (s .count)) → d ≡ encodeOf s
+pub written : (s : State) (a b c d : List ℕ) → length a ≡ stateSize → b ≡ patch a 0 (wordBytesOf (s .words)) → length (s .words) ≡ 8
+    → length (s .tail) ≡ 64 → c ≡ patch b tailAt (s .tail) → d ≡ patch c countAt (le 8 (s .count)) → d ≡ encodeOf s
 unfolding encodeOf
-written s b c d lb e full ec ed =
+written s a b c d la eb eight full ec ed =
+    let words : length (wordBytesOf (s .words)) ≡ tailAt = rw (length-number-bytes 4 (s .words), eight) in
+    let lb : length b ≡ stateSize = ap length eb ∙ length-patch a 0 (wordBytesOf (s .words)) (omega arith) ∙ la in
+    let e : take tailAt b ≡ wordBytesOf (s .words) = ap (take tailAt) eb ∙ front-patch a 0 [] (wordBytesOf (s .words)) tailAt refl (omega arith) (omega arith) in
     let last : length (le 8 (s .count)) ≡ 8 = length-le 8 (s .count) in
     let lc : length c ≡ stateSize = ap length ec ∙ length-patch b tailAt (s .tail) (omega arith) ∙ lb in
     let ld : length d ≡ stateSize = ap length ed ∙ length-patch c countAt (le 8 (s .count)) (omega arith) ∙ lc in

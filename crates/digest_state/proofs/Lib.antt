@@ -1,3 +1,3 @@
--- Theorems: DigestStateBytes, a state and its bytes. DigestStates is what the proofs of the functions cite.
+-- DigestStateBytes has the proofs of specs/Theorems; DigestStates is what the proofs of the functions cite.
 pub mod DigestStateBytes
 mod DigestStates

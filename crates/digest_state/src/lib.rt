@@ -6,7 +6,7 @@
 // caller shows it.
 use digest::State;
 ghost use mathlib.Core.Path.{_≡_};
-ghost use lib.ListN.{length, take};
+ghost use lib.ListN.{length};
 ghost use Rattle.octets.specs.Parts.{patch};
 ghost use Rattle.digest_state.specs.DigestState.{digestSize, stateSize, tailAt, wordsOf, wordBytesOf, encodeOf, decodeOf};
 
@@ -71,7 +71,7 @@ pub fn encode(s: State, buffer: &mut [u8])
 // The words written from index 0.
 fn put_words(words: [u32; 8], buffer: &mut [u8])
     requires { ⌜ length (now buffer) ≡ stateSize ⌝ }
-    ensures { λ _. ⌜ take tailAt (now (buffer .exit)) ≡ wordBytesOf words ⌝ }
+    ensures { λ _. ⌜ (now (buffer .exit) ≡ patch (now (buffer .entry)) 0 (wordBytesOf words)) × (length words ≡ 8) ⌝ }
 {
     let mut i: usize = 0;
     while i < 8 {

@@ -1,11 +1,14 @@
--- Document 01, "Bench examples": those marked * "are proved together, as a single table with one claim over all its rows".
+-- Document 01's numbers, in two tables. "Bench examples": those marked * "are proved together, as a single table with one claim over all its rows".
+-- "Refusal numbers": the number and values of each answer.
 --
 -- A row has what the definitions give, and the numbers of the paper. The claim is that they are the same, in every row.
 use Prim.Native.Nat.{ℕ, _-_, _*_}
 use mathlib.Core.Bool.{Bool, true, _&&_}
 use mathlib.Core.List.{List, [], _∷_}
 use mathlib.Core.Path.{_≡_, refl}
+use lib.IntN.{ℤ, pos, negsuc}
 use lib.ListN.{length, replicate}
+use Rattle.octets.specs.Answer.{Answer, taken, refused, numberIn}
 use Rattle.octets.specs.Parts.{same}
 use Rattle.model.specs.declared.FormatAnswer.{FormatAnswer}
 use Rattle.model.specs.declared.FormatAnswer.the-variants as format
@@ -22,6 +25,10 @@ use Rattle.model.specs.State.{stateOk, stagingOk}
 use Rattle.model.specs.Tag.{tagOf}
 use Rattle.model.specs.Format.{formatOf}
 use Rattle.model.specs.Write.{writeOf}
+use Rattle.digest.specs.declared.Answer.the-variants as digest
+use Rattle.digest.specs.Answer as digest-answers
+use Rattle.tree.specs.declared.Answer.the-variants as tree
+use Rattle.tree.specs.Answer as tree-answers
 use Rattle.tree.specs.Places.{levelsAbove, levelsOf, hashBlocksOf, digestAt}
 use Rattle.tree.specs.Build.{buildOf}
 
@@ -54,7 +61,7 @@ opened = record { layout = bench 16; phase = Filling; count = 0; id = 1 }
 abbrev hashBlocks : ℕ → ℕ
 hashBlocks n = hashBlocksOf (levelsOf n) n
 
--- ---- the table
+-- ---- the starred examples
 
 pub record Row : Type 0 where
   pub given : List ℕ
@@ -87,7 +94,7 @@ table =
     -- 128, 129, 16,384 data blocks: 1, 3, 129 hash blocks. 0 and 16,385 are refused 2.
     record {
       given =
-          hashBlocks 128 ∷ hashBlocks 129 ∷ hashBlocks 16384 ∷ buildOf 0 [] [] [] .refused .number ∷ buildOf 16385 [] [] [] .refused .number ∷ [];
+          hashBlocks 128 ∷ hashBlocks 129 ∷ hashBlocks 16384 ∷ numberIn (buildOf 0 [] [] [] .answer) ∷ numberIn (buildOf 16385 [] [] [] .answer) ∷ [];
       paper = 1 ∷ 3 ∷ 129 ∷ 2 ∷ 2 ∷ [];
     } ∷
     -- 129 blocks: the digest of block 128 stands at tree byte 8,192.
@@ -106,3 +113,51 @@ allSame (row ∷ rows) = same (row .given) (row .paper) && allSame rows
 pub starred-examples : allSame table ≡ true
 unfolding layoutOk widthOk formatOf writeOf stateOk stagingOk emptySection levelsAbove levelsOf hashBlocksOf buildOf
 starred-examples = refl
+
+-- ---- the refusals
+
+-- number and values of an answer, one behind the other, as integers; the number alone where nothing is also returned
+abbrev told : {A : Type 0} → Answer ℤ A → List ℤ
+told (taken x) = pos 0 ∷ []
+told (refused r) = pos (r .number) ∷ r .values
+
+-- the same where the values are natural numbers
+abbrev integers : List ℕ → List ℤ
+integers [] = []
+integers (n ∷ ns) = pos n ∷ integers ns
+
+abbrev toldPlain : {A : Type 0} → Answer ℕ A → List ℤ
+toldPlain (taken x) = pos 0 ∷ []
+toldPlain (refused r) = pos (r .number) ∷ integers (r .values)
+
+pub record Told : Type 0 where
+  pub given : List ℤ
+  pub paper : List ℤ
+
+abbrev refusals : List Told
+refusals =
+    -- digest. 1: the digest's limit is passed; nothing.
+    record { given = toldPlain (digest-answers.answerOf digest.TooLong); paper = pos 1 ∷ [] } ∷
+    -- tree. 1: a loan has a wrong length; nothing.
+    record { given = told (tree-answers.answerOf tree.WrongLength); paper = pos 1 ∷ [] } ∷
+    -- tree. 2: parameter out of range; nothing.
+    record { given = told (tree-answers.answerOf tree.OutOfRange); paper = pos 2 ∷ [] } ∷
+    -- tree. 12: tree doesn't verify; highest failing level, the data block being level −1.
+    record { given = told (tree-answers.answerOf tree.DataDiffers); paper = pos 12 ∷ negsuc 0 ∷ [] } ∷
+    record { given = told (tree-answers.answerOf (tree.LevelDiffers 1)); paper = pos 12 ∷ pos 1 ∷ [] } ∷
+    []
+
+abbrev pub refusalCount : ℕ
+refusalCount = length refusals
+
+abbrev givenIn : List Told → List (List ℤ)
+givenIn [] = []
+givenIn (row ∷ rows) = row .given ∷ givenIn rows
+
+abbrev paperIn : List Told → List (List ℤ)
+paperIn [] = []
+paperIn (row ∷ rows) = row .paper ∷ paperIn rows
+
+-- THE CLAIM
+pub refusal-numbers : givenIn refusals ≡ paperIn refusals
+refusal-numbers = refl

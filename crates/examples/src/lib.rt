@@ -1,10 +1,18 @@
-// Document 01's starred examples, as one table with one claim over all its rows: specs/Examples.antt. There is nothing to run here.
+// Document 01's starred examples, and its refusal numbers, each as one table with one claim over all its rows: specs/Examples.antt. There is nothing to
+// run here.
 ghost use mathlib.Core.Path.{_≡_};
-ghost use Rattle.examples.specs.Examples.{rowCount};
+ghost use Rattle.examples.specs.Examples.{rowCount, refusalCount};
 
-// The rows of the table.
+// The rows of the starred examples.
 pub fn rows() -> usize
     ensures { λ r. ⌜ r ≡ rowCount ⌝ }
 {
     10
+}
+
+// The rows of the refusals.
+pub fn refusals() -> usize
+    ensures { λ r. ⌜ r ≡ refusalCount ⌝ }
+{
+    5
 }

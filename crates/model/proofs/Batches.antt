@@ -11,9 +11,9 @@ use lib.ListN.{length}
 use lib.Dec.{eqb}
 use borrow.Author.Tests.{eqb-true, eq-eqb, ne-eqb, lt-ltb, leb-false}
 use Rattle.octets.specs.Answer.{Refusal, taken, refused, isTaken}
-use Rattle.octets.specs.Choice.{pick, firstMet, Unmet}
+use Rattle.octets.specs.Choice.{pick, firstMet}
 use Rattle.octets.proofs.Answers.{refused-not-taken}
-use Rattle.octets.proofs.Choice.{unmet}
+use Rattle.octets.proofs.Choice.{Unmet, unmet}
 use Rattle.model.specs.Layout.{entryCount, sectionSize}
 use Rattle.model.specs.Section.{Entry, entryOf, putEntry}
 use Rattle.model.specs.Tag.{Tag, Tags}

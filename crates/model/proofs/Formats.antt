@@ -20,9 +20,9 @@ use Rattle.model.specs.Superblock.{superblockOf, superblockAt}
 use Rattle.model.proofs.Sections.{length-collect, part-collect}
 use Rattle.model.specs.Tag.{Tag, Tags, tagAt}
 use Rattle.model.specs.State.{volumeLoanOk, Verdict, passed}
-use Rattle.octets.specs.Choice.{firstMet, Unmet}
+use Rattle.octets.specs.Choice.{firstMet}
 use Rattle.octets.proofs.Answers.{refused-not-taken}
-use Rattle.octets.proofs.Choice.{unmet}
+use Rattle.octets.proofs.Choice.{Unmet, unmet}
 use Rattle.model.specs.Format.{zeros, freshTags, freshRun, lastRun, lastLength, freshVolume, formatRows, formatBy, formatOf}
 use Rattle.model.proofs.Batches.{Seen, isPassed, isRefused, seen, not-not}
 use Rattle.model.proofs.Addresses.{Ranged, ranged, tag-in-area, base-room}

@@ -12,13 +12,12 @@ use lib.Seq.{getD-at}
 use lib.Dec.{eqb}
 use borrow.Author.Tests.{eq-eqb, ne-eqb, lt-ltb, le-ltb, le-leb, lt-leb}
 use Rattle.octets.specs.Answer.{taken, isTaken}
-use Rattle.octets.specs.Choice.{Unmet}
 use Rattle.model.specs.Layout.{entryCount, sectionSize, sectionAt, needed}
 use Rattle.model.specs.Section.{Entry, entryOf, emptySection}
 use Rattle.model.specs.Journal.{sealed, greatestId, Replayed, replay}
 use Rattle.model.specs.Tag.{Tag}
 use Rattle.model.specs.Store.{one, afterEffect, homeStore, made, storesOf, homeCount}
-use Rattle.octets.proofs.Choice.{passes}
+use Rattle.octets.proofs.Choice.{Unmet, passes}
 use Rattle.model.specs.Flush.{inPhase}
 use Rattle.model.specs.State.{passed, volumeLoanOk, placeOk, replayOk, stateOk, volumeOk, stagingOk}
 use Rattle.model.specs.Step.{noEntry, rangeRows, stepRows, StepResult, commitStep, homeStep, writeBackStep, recoverStep, phaseStep, stepBy, stepOf}

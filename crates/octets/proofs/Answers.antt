@@ -1,9 +1,10 @@
 -- Answers are told apart.
 use Prim.Native.Nat.{ℕ}
+use mathlib.Core.Bool.{false}
 use mathlib.Core.Logic.{_≢_}
-use mathlib.Core.Path.{_≡_, ap}
+use mathlib.Core.Path.{_≡_, refl, ap}
 use native.Mathlib.Omega.{arith}
-use Rattle.octets.specs.Answer.{Refusal, Answer, taken, refused}
+use Rattle.octets.specs.Answer.{Refusal, Answer, taken, refused, isTaken, numberIn}
 
 module _ {Value A : Type 0} where
   given : A → Answer Value A → A
@@ -17,3 +18,8 @@ module _ {Value A : Type 0} where
 
   pub refused-not-taken : (r : Refusal Value) (x : A) → _≢_ {A = Answer Value A} (refused r) (taken x)
   refused-not-taken r x e = absurd (let z : _≡_ {A = ℕ} 0 1 = cc in omega arith)
+
+  -- a number other than 0 is a refusal's
+  pub number-refused : (a : Answer Value A) → numberIn a ≢ 0 → isTaken a ≡ false
+  number-refused (taken x) h = absurd (h refl)
+  number-refused (refused r) h = refl

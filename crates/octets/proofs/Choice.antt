@@ -3,7 +3,17 @@ use mathlib.Core.Bool.{Bool, true, false}
 use mathlib.Core.List.{List, [], _∷_, _++_}
 use mathlib.Core.Logic.{_≢_}
 use mathlib.Core.Path.{_≡_, refl, sym}
-use Rattle.octets.specs.Choice.{pick, firstMet, Unmet, NoneAnswers}
+use Rattle.octets.specs.Choice.{pick, firstMet}
+
+-- the test of every row is false
+abbrev pub Unmet : {A : Type 0} → List (Bool × A) → Type 0
+Unmet [] = Unit {0}
+Unmet (row ∷ rows) = (row .0 ≡ false) × Unmet rows
+
+-- no row has the answer z
+abbrev pub NoneAnswers : {A : Type 0} → List (Bool × A) → A → Type 0
+NoneAnswers [] z = Unit {0}
+NoneAnswers (row ∷ rows) z = (row .1 ≢ z) × NoneAnswers rows z
 
 module _ {A : Type 0} where
   -- where no row is met, the answer is the last one

@@ -2,8 +2,6 @@
 -- a test and an answer, in that order.
 use mathlib.Core.Bool.{Bool, true, false}
 use mathlib.Core.List.{List, [], _∷_}
-use mathlib.Core.Logic.{_≢_}
-use mathlib.Core.Path.{_≡_}
 
 -- a where the test is true, else b
 abbrev pub pick {ℓ} : {A : Type ℓ} → Bool → A → A → A
@@ -14,13 +12,3 @@ pick false a b = b
 abbrev pub firstMet : {A : Type 0} → List (Bool × A) → A → A
 firstMet [] z = z
 firstMet (row ∷ rows) z = pick (row .0) (row .1) (firstMet rows z)
-
--- the test of every row is false
-abbrev pub Unmet : {A : Type 0} → List (Bool × A) → Type 0
-Unmet [] = Unit {0}
-Unmet (row ∷ rows) = (row .0 ≡ false) × Unmet rows
-
--- no row has the answer z
-abbrev pub NoneAnswers : {A : Type 0} → List (Bool × A) → A → Type 0
-NoneAnswers [] z = Unit {0}
-NoneAnswers (row ∷ rows) z = (row .1 ≢ z) × NoneAnswers rows z

@@ -6,10 +6,11 @@ use mathlib.Core.Path.{_≡_, sym, ap, _∙_}
 use lib.ListN.{length}
 use Rattle.octets.specs.Parts.{part}
 use Rattle.octets.proofs.Parts.{part-all, part-append-left, part-append-right}
-use Rattle.tree.specs.Places.{blockSize, digestSize, digestsPerBlock, parentsOf, topOf, firstBlockOf, digestAt, placesOf}
+use Rattle.tree.specs.Places.{blockSize, digestSize, digestsPerBlock, parentsOf, firstBlockOf, digestAt, placesOf}
 use Rattle.tree.specs.Tree.{blockOf, blockDigest, levelOf, treeOf, rootOf}
 use Rattle.tree.specs.Path.{risersOf, computedOf, standingOf}
 use Rattle.tree.specs.Acceptance.{Verifies}
+use Rattle.tree.proofs.PlaceLaws.{topOf}
 use Rattle.tree.proofs.TreeLaws.{length-level, length-tree, digest-in-level}
 
 -- ---- the path

@@ -6,48 +6,47 @@ use mathlib.Core.Bool.{Bool, true, false, not}
 use mathlib.Core.List.{List, [], _∷_, _++_}
 use mathlib.Core.Logic.{_≢_}
 use mathlib.Core.Path.{_≡_, refl, ap, _∙_}
+use lib.IntN.{ℤ}
 use lib.ListN.{length, getD}
 use lib.Seq.{ext-getD}
-use Rattle.octets.specs.Choice.{pick, firstMet, NoneAnswers}
+use Rattle.octets.specs.Answer.{Answer, taken, numberIn}
+use Rattle.octets.specs.Choice.{pick, firstMet}
+use Rattle.octets.proofs.Choice.{NoneAnswers, first-append}
 use Rattle.octets.specs.Parts.{same}
 use Rattle.octets.proofs.Parts.{same-true, same-false, eq-same, ne-same}
-use Rattle.tree.specs.Answer.{Refusal, taken, mismatch}
+use Rattle.tree.specs.Answer.{mismatch}
 use Rattle.tree.specs.Verify.{pathRows, comparedOf}
 use Rattle.tree.specs.Theorems.{DiffersAt}
 
 -- ---- rows, one list after another
 
-first-append : (p q : List (Bool × Refusal)) (z : Refusal) → firstMet (p ++ q) z ≡ firstMet p (firstMet q z)
-first-append [] q z = refl
-first-append (row ∷ p) q z = ap (pick (row .0) (row .1)) (first-append p q z)
-
-none-append : (p q : List (Bool × Refusal)) (z : Refusal) → NoneAnswers p z → NoneAnswers q z → NoneAnswers (p ++ q) z
+none-append : {A : Type 0} (p q : List (Bool × A)) (z : A) → NoneAnswers p z → NoneAnswers q z → NoneAnswers (p ++ q) z
 none-append [] q z a b = b
 none-append (row ∷ p) q z a b = (a .0, none-append p q z (a .1) b)
 
-pub mismatch-refused : (k : ℕ) → mismatch k ≢ taken
+pub mismatch-refused : (k : ℕ) → mismatch k ≢ taken tt
 mismatch-refused k e =
-    let z : _≡_ {A = ℕ} 12 0 = ap (λ (r : Refusal). r .number) e in
+    let z : _≡_ {A = ℕ} 12 0 = ap (λ (a : Answer ℤ (Unit {0})). numberIn a) e in
     omega arith
 
 -- no digest that differs is taken
-pub path-refuses : (k : ℕ) (xs ys : List (List ℕ)) → NoneAnswers (pathRows k xs ys) taken
+pub path-refuses : (k : ℕ) (xs ys : List (List ℕ)) → NoneAnswers (pathRows k xs ys) (taken tt)
 unfolding pathRows
 path-refuses k [] ys = tt
 path-refuses k (x ∷ xs) [] = tt
 path-refuses k (x ∷ xs) (y ∷ ys) =
-    none-append (pathRows (suc k) xs ys) ((not (same x y), mismatch k) ∷ []) taken (path-refuses (suc k) xs ys) (mismatch-refused k, tt)
+    none-append (pathRows (suc k) xs ys) ((not (same x y), mismatch k) ∷ []) (taken tt) (path-refuses (suc k) xs ys) (mismatch-refused k, tt)
 
 -- ---- places
 
 -- the rows above the lowest come before it
-above-first : (k : ℕ) (x : List ℕ) (xs : List (List ℕ)) (y : List ℕ) (ys : List (List ℕ)) (z : Refusal)
+above-first : (k : ℕ) (x : List ℕ) (xs : List (List ℕ)) (y : List ℕ) (ys : List (List ℕ)) (z : Answer ℤ (Unit {0}))
     → firstMet (pathRows k (x ∷ xs) (y ∷ ys)) z ≡ firstMet (pathRows (suc k) xs ys) (pick (not (same x y)) (mismatch k) z)
 unfolding pathRows
 above-first k x xs y ys z = first-append (pathRows (suc k) xs ys) ((not (same x y), mismatch k) ∷ []) z
 
 -- where all agree, none is met
-agreeing : (k : ℕ) (xs : List (List ℕ)) (z : Refusal) → firstMet (pathRows k xs xs) z ≡ z
+agreeing : (k : ℕ) (xs : List (List ℕ)) (z : Answer ℤ (Unit {0})) → firstMet (pathRows k xs xs) z ≡ z
 unfolding pathRows
 agreeing k [] z = refl
 agreeing k (x ∷ xs) z = above-first k x xs x xs z ∙ rw (eq-same x x refl) (agreeing (suc k) xs z)
@@ -65,7 +64,7 @@ differs-down x y xs ys j d =
     record { inside = omega (arith, d .inside); differ = d .differ; agree = λ i l m. d .agree (suc i) (omega arith) (omega arith) }
 
 -- the place that is named
-highest : (j k : ℕ) (xs ys : List (List ℕ)) (z : Refusal) → length xs ≡ length ys → DiffersAt xs ys j → firstMet (pathRows k xs ys) z ≡ mismatch (k + j)
+highest : (j k : ℕ) (xs ys : List (List ℕ)) (z : Answer ℤ (Unit {0})) → length xs ≡ length ys → DiffersAt xs ys j → firstMet (pathRows k xs ys) z ≡ mismatch (k + j)
 highest j k [] ys z e d = absurd (omega (arith, d .inside))
 highest j k (x ∷ xs) [] z e d = absurd (omega arith)
 highest zero k (x ∷ xs) (y ∷ ys) z e d =
@@ -98,10 +97,10 @@ compared (x ∷ xs) (y ∷ ys) e = go (compared xs ys (omega arith)) (same x y) 
     go (agree tails) false q = differ 0 (lowest tails (same-false x y q))
     go (differ j d) t q = differ (suc j) (differs-up x y xs ys j d)
 
-pub agree-taken : (xs ys : List (List ℕ)) → xs ≡ ys → comparedOf xs ys ≡ taken
-agree-taken xs ys e = rw e (agreeing 0 ys taken)
+pub agree-taken : (xs ys : List (List ℕ)) → xs ≡ ys → comparedOf xs ys ≡ taken tt
+agree-taken xs ys e = rw e (agreeing 0 ys (taken tt))
 
 pub differ-named : (xs ys : List (List ℕ)) (k : ℕ) → length xs ≡ length ys → DiffersAt xs ys k → comparedOf xs ys ≡ mismatch k
 differ-named xs ys k e d =
     let z : 0 + k ≡ k = omega arith in
-    highest k 0 xs ys taken e d ∙ ap mismatch z
+    highest k 0 xs ys (taken tt) e d ∙ ap mismatch z

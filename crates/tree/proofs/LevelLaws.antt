@@ -11,8 +11,9 @@ use lib.Seq.{drop-at, drop-length, length-take-le}
 use Rattle.octets.specs.Parts.{part, patch}
 use Rattle.octets.proofs.Parts.{part-all, part-part, part-patch-same, part-patch-after, length-patch, patch-join}
 use Rattle.digest.specs.Sha256.Promise.{length-sha256}
-use Rattle.tree.specs.Places.{blockSize, digestSize, parentsOf, topOf, hashBlocksOf, firstBlockOf}
+use Rattle.tree.specs.Places.{blockSize, digestSize, parentsOf, hashBlocksOf, firstBlockOf}
 use Rattle.tree.specs.Tree.{blockOf, blockDigest, digestsOf, levelOf, treeOf, rootOf}
+use Rattle.tree.proofs.PlaceLaws.{topOf}
 use Rattle.tree.proofs.TreeLaws.{length-digests, length-level}
 
 -- ---- the digests of a level: r is the tree with the first i of them put in

@@ -10,7 +10,7 @@ use mathlib.Core.Path.{_≡_, refl, sym, ap, _∙_}
 use lib.ListN.{length, getD, take, set}
 use lib.Seq.{take-suc-set, append-snoc, getD-take}
 use borrow.Author.Tests.{lt-ltb, le-ltb}
-use Rattle.tree.specs.Places.{blockSize, digestSize, digestsPerBlock, mostBlocks, mostLevels, parentsOf, levelsAbove, levelsOf, topOf, hashBlocksOf, firstBlockOf, digestAt, placesOf}
+use Rattle.tree.specs.Places.{blockSize, digestSize, digestsPerBlock, mostBlocks, mostLevels, parentsOf, levelsAbove, levelsOf, hashBlocksOf, firstBlockOf, digestAt, placesOf}
 
 -- one of two orders holds
 pub below-or : (a b : ℕ) → (a < b) ⊎ (b ≤ a)
@@ -44,6 +44,11 @@ any-bound (suc f) (suc g) m a b =
 next-above : (f m : ℕ) → 1 < m → m ≤ f → levelsAbove f m ≡ suc (levelsAbove f (parentsOf m))
 next-above zero m h l = absurd (omega arith)
 next-above (suc f) m h l = one-above f m h ∙ ap suc (any-bound f (suc f) (parentsOf m) (omega arith) (omega arith))
+
+-- the blocks in the highest of h levels above m blocks; the m blocks themselves where h is 0
+unfoldable pub topOf : ℕ → ℕ → ℕ
+topOf zero m = m
+topOf (suc h) m = topOf h (parentsOf m)
 
 -- the levels that are counted lead to one block
 above-top : (f m : ℕ) → 0 < m → m ≤ suc f → topOf (levelsAbove f m) m ≡ 1

@@ -1,44 +1,58 @@
--- What each rule leads to: one law to a return of build and verify, under the tests that were passed before it.
+-- What each rule leads to: one law to a return of length, build and verify, under the tests that were passed before it.
 use Prim.Native.Nat.{ℕ, _*_, _≤_, _<_}
-use mathlib.Core.List.{List}
+use mathlib.Core.List.{List, []}
 use mathlib.Core.Logic.{_≢_}
 use mathlib.Core.Path.{_≡_}
 use lib.ListN.{length}
 use borrow.Author.Tests.{eq-eqb, ne-eqb, lt-ltb, le-ltb, le-leb, lt-leb}
-use Rattle.tree.specs.Places.{blockSize, digestSize, mostBlocks, longestSalt, levelsOf, placesOf, treeLength}
+use Rattle.octets.specs.Answer.{refuse}
+use Rattle.tree.specs.Places.{blockSize, digestSize, mostBlocks, longestSalt, levelsOf, placesOf, treeLength, lengthOf}
 use Rattle.tree.specs.Path.{computedOf, standingOf}
-use Rattle.tree.specs.Answer.{refusal}
 use Rattle.tree.specs.Build.{refusedWith, builtOf, buildOf}
 use Rattle.tree.specs.Verify.{comparedOf, verifyOf}
 
+module _ (n : ℕ) where
+  pub length-none : n ≡ 0 → 0 ≡ lengthOf n
+  unfolding lengthOf
+  length-none h = rw (eq-eqb n 0 h)
+
+  module _ (some : n ≢ 0) where
+    pub length-many : mostBlocks < n → 0 ≡ lengthOf n
+    unfolding lengthOf
+    length-many h = rw (ne-eqb n 0 some, lt-ltb mostBlocks n h)
+
+    pub length-of : {k : ℕ} → n ≤ mostBlocks → k ≡ treeLength n → k ≡ lengthOf n
+    unfolding lengthOf
+    length-of h e = rw (ne-eqb n 0 some, le-ltb mostBlocks n h) e
+
 module _ (b : List ℕ) (i : ℕ) (t : List ℕ) (n : ℕ) (s r : List ℕ) where
-  pub verify-block : length b ≢ blockSize → refusal 1 ≡ verifyOf b i t n s r
+  pub verify-block : length b ≢ blockSize → refuse 1 [] ≡ verifyOf b i t n s r
   unfolding verifyOf
   verify-block a = rw (ne-eqb (length b) blockSize a)
 
   module _ (eb : length b ≡ blockSize) where
-    pub verify-root : length r ≢ digestSize → refusal 1 ≡ verifyOf b i t n s r
+    pub verify-root : length r ≢ digestSize → refuse 1 [] ≡ verifyOf b i t n s r
     unfolding verifyOf
     verify-root a = rw (eq-eqb (length b) blockSize eb, ne-eqb (length r) digestSize a)
 
     module _ (er : length r ≡ digestSize) where
-      pub verify-none : n ≡ 0 → refusal 2 ≡ verifyOf b i t n s r
+      pub verify-none : n ≡ 0 → refuse 2 [] ≡ verifyOf b i t n s r
       unfolding verifyOf
       verify-none a = rw (eq-eqb (length b) blockSize eb, eq-eqb (length r) digestSize er, eq-eqb n 0 a)
 
       module _ (en : n ≢ 0) where
-        pub verify-many : mostBlocks < n → refusal 2 ≡ verifyOf b i t n s r
+        pub verify-many : mostBlocks < n → refuse 2 [] ≡ verifyOf b i t n s r
         unfolding verifyOf
         verify-many a = rw (eq-eqb (length b) blockSize eb, eq-eqb (length r) digestSize er, ne-eqb n 0 en, lt-ltb mostBlocks n a)
 
         module _ (em : n ≤ mostBlocks) where
-          pub verify-salt : longestSalt < length s → refusal 2 ≡ verifyOf b i t n s r
+          pub verify-salt : longestSalt < length s → refuse 2 [] ≡ verifyOf b i t n s r
           unfolding verifyOf
           verify-salt a =
               rw (eq-eqb (length b) blockSize eb, eq-eqb (length r) digestSize er, ne-eqb n 0 en, le-ltb mostBlocks n em, lt-ltb longestSalt (length s) a)
 
           module _ (es : length s ≤ longestSalt) where
-            pub verify-index : n ≤ i → refusal 2 ≡ verifyOf b i t n s r
+            pub verify-index : n ≤ i → refuse 2 [] ≡ verifyOf b i t n s r
             unfolding verifyOf
             verify-index a =
                 rw (
@@ -51,7 +65,7 @@ module _ (b : List ℕ) (i : ℕ) (t : List ℕ) (n : ℕ) (s r : List ℕ) wher
                 )
 
             module _ (ei : i < n) where
-              pub verify-tree : length t ≢ treeLength n → refusal 1 ≡ verifyOf b i t n s r
+              pub verify-tree : length t ≢ treeLength n → refuse 1 [] ≡ verifyOf b i t n s r
               unfolding verifyOf
               verify-tree a =
                   rw (

@@ -8,15 +8,16 @@ use lib.Dec.{eqb}
 use lib.IntN.{ℤ, pos, negsuc}
 use lib.ListN.{length}
 use borrow.Author.Tests.{eqb-true, eqb-false, ltb-false, leb-false, not-false}
-use Rattle.octets.specs.Choice.{pick, Unmet}
-use Rattle.octets.proofs.Choice.{unmet}
+use Rattle.octets.specs.Answer.{Answer, taken, refused, refuse, numberIn}
+use Rattle.octets.specs.Choice.{pick}
+use Rattle.octets.proofs.Choice.{Unmet, unmet}
 use Rattle.octets.proofs.Parts.{length-part}
-use Rattle.tree.specs.declared.Answer.{Answer}
+use Rattle.tree.specs.declared.Answer as code
 use Rattle.tree.specs.declared.Answer.the-variants.{Taken, WrongLength, OutOfRange, DataDiffers, LevelDiffers}
 use Rattle.tree.specs.Places.{blockSize, digestSize, mostBlocks, longestSalt, levelsOf, placesOf, treeLength}
 use Rattle.tree.specs.Tree.{blockOf, treeOf, rootOf}
 use Rattle.tree.specs.Path.{risersOf, computedOf, standingOf}
-use Rattle.tree.specs.Answer.{Refusal, refusalOf, taken, refusal, levelAt, mismatch}
+use Rattle.tree.specs.Answer.{levelAt, mismatch, answerOf}
 use Rattle.tree.specs.Build.{BuildOutcome, builtOf, buildOf}
 use Rattle.tree.specs.Verify.{loanRows, pathRows, comparedOf, verifyOf}
 use Rattle.tree.specs.Acceptance.{Verifies, Fits, Acceptable}
@@ -31,15 +32,16 @@ use Rattle.tree.proofs.Returns.{verify-path, build-made}
 -- ---- answers
 
 -- the answer, from number and values
-told : Refusal → Answer
-told r = go (r .number) (r .values)
+told : Answer ℤ (Unit {0}) → code.Answer
+told (taken x) = Taken
+told (refused r) = go (r .number) (r .values)
   where
-    go : ℕ → List ℤ → Answer
+    go : ℕ → List ℤ → code.Answer
     go n (pos l ∷ vs) = LevelDiffers l
     go n (negsuc x ∷ vs) = DataDiffers
-    go n [] = pick (eqb n 1) WrongLength (pick (eqb n 2) OutOfRange Taken)
+    go n [] = pick (eqb n 1) WrongLength OutOfRange
 
-told-back : (a : Answer) → told (refusalOf a) ≡ a
+told-back : (a : code.Answer) → told (answerOf a) ≡ a
 unfolding told
 told-back Taken = refl
 told-back WrongLength = refl
@@ -71,19 +73,23 @@ module _ (b : List ℕ) (i : ℕ) (t : List ℕ) (n : ℕ) (s r : List ℕ) wher
   fitting f =
       sym (verify-path b i t n s r (f .block) (f .digest) (omega (arith, f .some)) (f .count) (f .salt) (f .index) (f .tree))
 
-  refused-1 : refusal 1 ≢ taken
-  refused-1 e = let z : _≡_ {A = ℕ} 1 0 = ap (λ (x : Refusal). x .number) e in omega arith
+  -- a refusal is not taken
+  refusal : (k : ℕ) → 0 < k → refuse k [] ≢ answerOf Taken
+  refusal k l e = let z : k ≡ 0 = ap (λ (x : Answer ℤ (Unit {0})). numberIn x) e in omega arith
 
-  refused-2 : refusal 2 ≢ taken
-  refused-2 e = let z : _≡_ {A = ℕ} 2 0 = ap (λ (x : Refusal). x .number) e in omega arith
+  refused-1 : refuse 1 [] ≢ answerOf Taken
+  refused-1 = refusal 1 (omega arith)
 
-  passed : verifyOf b i t n s r ≡ taken → Unmet (loanRows b i t n s r ++ pathRows 0 computedHere standingHere)
+  refused-2 : refuse 2 [] ≢ answerOf Taken
+  refused-2 = refusal 2 (omega arith)
+
+  passed : verifyOf b i t n s r ≡ taken tt → Unmet (loanRows b i t n s r ++ pathRows 0 computedHere standingHere)
   unfolding verifyOf
   passed e =
-      unmet (loanRows b i t n s r ++ pathRows 0 computedHere standingHere) taken
+      unmet (loanRows b i t n s r ++ pathRows 0 computedHere standingHere) (taken tt)
       (refused-1, (refused-1, (refused-2, (refused-2, (refused-2, (refused-2, (refused-1, path-refuses 0 computedHere standingHere))))))) e
 
-  fits-taken : verifyOf b i t n s r ≡ taken → Fits b i t n s r
+  fits-taken : verifyOf b i t n s r ≡ taken tt → Fits b i t n s r
   fits-taken e =
       let u = passed e in
       let none : n ≢ 0 = eqb-false n 0 (u .1 .1 .0) in record {
@@ -96,19 +102,19 @@ module _ (b : List ℕ) (i : ℕ) (t : List ℕ) (n : ℕ) (s r : List ℕ) wher
         tree = eqb-true (length t) (treeLength n) (not-false _ (u .1 .1 .1 .1 .1 .1 .0));
       }
 
-  path-taken : comparedOf computedHere standingHere ≡ taken → computedHere ≡ standingHere
+  path-taken : comparedOf computedHere standingHere ≡ taken tt → computedHere ≡ standingHere
   path-taken e = go (compared computedHere standingHere as-long)
     where
       go : Compared computedHere standingHere → computedHere ≡ standingHere
       go (agree q) = q
       go (differ k d) = absurd (mismatch-refused k (sym (differ-named computedHere standingHere k as-long d) ∙ e))
 
-  accept : verifyOf b i t n s r ≡ taken → Acceptable b i t n s r
+  accept : verifyOf b i t n s r ≡ taken tt → Acceptable b i t n s r
   accept e =
       let f = fits-taken e in
       record { fits = f; verifies = path-verifies s t r (levelsOf n) n i b (path-taken (sym (fitting f) ∙ e)) }
 
-  accepted : Acceptable b i t n s r → verifyOf b i t n s r ≡ taken
+  accepted : Acceptable b i t n s r → verifyOf b i t n s r ≡ taken tt
   accepted a = fitting (a .fits) ∙ agree-taken computedHere standingHere (path-agrees s t r (levelsOf n) n i b (a .verifies))
 
 pub accepts-exactly : AcceptsExactly
@@ -117,8 +123,12 @@ accepts-exactly b i t n s r = (accept b i t n s r, accepted b i t n s r)
 -- ---- the level that 12 names
 
 place-named : (j k : ℕ) → mismatch j ≡ mismatch k → j ≡ k
-place-named j k e = go j k (ap (λ (r : Refusal). r .values) e)
+place-named j k e = go j k (ap valuesIn e)
   where
+    valuesIn : Answer ℤ (Unit {0}) → List ℤ
+    valuesIn (taken x) = []
+    valuesIn (refused r) = r .values
+
     go : (j k : ℕ) → levelAt j ∷ [] ≡ levelAt k ∷ [] → j ≡ k
     go zero zero e = refl
     go zero (suc k) e = absurd (let z : _≡_ {A = ℕ} 0 1 = cc in omega arith)
@@ -147,7 +157,7 @@ names-highest b i t n s r f k = (named, λ d. fitting b i t n s r f ∙ differ-n
 -- ---- building, then verifying
 
 pub built-is-accepted : BuiltIsAccepted
-built-is-accepted n s d t some count salt image size = (ap (λ (o : BuildOutcome). o .refused) (sym built), each)
+built-is-accepted n s d t some count salt image size = (ap (λ (o : BuildOutcome). o .answer) (sym built), each)
   where
     built : builtOf n s d ≡ buildOf n s d t
     built = build-made n s d t (omega arith) count salt image size
@@ -167,7 +177,7 @@ built-is-accepted n s d t some count salt image size = (ap (λ (o : BuildOutcome
     verifies i l =
         built-verifies (levelsOf n) s n d (treeOf (levelsOf n) s n d) [] i (sym (append-nil (treeOf (levelsOf n) s n d))) (levels-top n some) image l
 
-    each : (i : ℕ) → i < n → verifyOf (blockOf d i) i (buildOf n s d t .tree) n s (buildOf n s d t .root) ≡ taken
+    each : (i : ℕ) → i < n → verifyOf (blockOf d i) i (buildOf n s d t .tree) n s (buildOf n s d t .root) ≡ taken tt
     each i l =
         ap (λ (o : BuildOutcome). verifyOf (blockOf d i) i (o .tree) n s (o .root)) (sym built)
         ∙ accepts-exactly (blockOf d i) i (treeOf (levelsOf n) s n d) n s (rootOf (levelsOf n) s n d) .1 (record { fits = fits i l; verifies = verifies i l })

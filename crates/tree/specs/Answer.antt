@@ -1,48 +1,25 @@
--- Document 01's number and values of each answer: "Refusal numbers".
+-- Document 01's number and values of each answer: "Refusal numbers"; "Hash tree": the data block counts as level −1.
 --
--- Refusal          : a number of the table and what is also returned; `taken`, with the number 0, where the call is not refused
--- numberOf a       : the number of the answer a
--- valuesOf a       : what is also returned: for 12 the highest failing level, the data block being level −1
--- refusalOf a      : both
--- refusal n        : the refusal n with nothing returned beside it
--- mismatch k       : refusal 12 at place k on the path: the data block where k is 0, else level k − 1
+-- levelAt k        : the level of place k on the path: −1, the data block's, where k is 0, else k − 1
+-- mismatch k       : refused with 12, the highest failing level being that of place k
+-- answerOf a       : the code's answer a
 use Prim.Native.Nat.{ℕ, zero, suc}
-use mathlib.Core.List.{List, [], _∷_}
+use mathlib.Core.List.{[], _∷_}
 use lib.IntN.{ℤ, pos, negsuc}
-use Rattle.tree.specs.declared.Answer.{Answer}
+use Rattle.octets.specs.Answer.{Answer, taken, refuse}
+use Rattle.tree.specs.declared.Answer as code
 use Rattle.tree.specs.declared.Answer.the-variants.{Taken, WrongLength, OutOfRange, DataDiffers, LevelDiffers}
 
-pub record Refusal : Type 0 where
-  pub number : ℕ
-  pub values : List ℤ
-
-abbrev pub numberOf : Answer → ℕ
-numberOf Taken = 0
-numberOf WrongLength = 1
-numberOf OutOfRange = 2
-numberOf DataDiffers = 12
-numberOf (LevelDiffers l) = 12
-
-abbrev pub valuesOf : Answer → List ℤ
-valuesOf Taken = []
-valuesOf WrongLength = []
-valuesOf OutOfRange = []
-valuesOf DataDiffers = negsuc 0 ∷ []
-valuesOf (LevelDiffers l) = pos l ∷ []
-
-abbrev pub refusalOf : Answer → Refusal
-refusalOf a = record { number = numberOf a; values = valuesOf a }
-
-abbrev pub taken : Refusal
-taken = record { number = 0; values = [] }
-
-abbrev pub refusal : ℕ → Refusal
-refusal n = record { number = n; values = [] }
-
--- the level of place k on the path
 abbrev pub levelAt : ℕ → ℤ
 levelAt zero = negsuc 0
 levelAt (suc l) = pos l
 
-abbrev pub mismatch : ℕ → Refusal
-mismatch k = record { number = 12; values = levelAt k ∷ [] }
+abbrev pub mismatch : ℕ → Answer ℤ (Unit {0})
+mismatch k = refuse 12 (levelAt k ∷ [])
+
+abbrev pub answerOf : code.Answer → Answer ℤ (Unit {0})
+answerOf Taken = taken tt
+answerOf WrongLength = refuse 1 []
+answerOf OutOfRange = refuse 2 []
+answerOf DataDiffers = mismatch 0
+answerOf (LevelDiffers l) = mismatch (suc l)

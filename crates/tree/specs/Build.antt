@@ -8,23 +8,25 @@ use Prim.Native.Nat.{ℕ, _*_}
 use mathlib.Core.Bool.{Bool, not}
 use mathlib.Core.List.{List, [], _∷_}
 use lib.Dec.{eqb, ltb}
+use lib.IntN.{ℤ}
 use lib.ListN.{length, replicate}
+use Rattle.octets.specs.Answer.{Answer, taken, refuse}
 use Rattle.octets.specs.Choice.{firstMet}
 use Rattle.tree.specs.declared.Built.{Built}
 use Rattle.tree.specs.Places.{blockSize, digestSize, mostBlocks, longestSalt, levelsOf, treeLength}
 use Rattle.tree.specs.Tree.{treeOf, rootOf}
-use Rattle.tree.specs.Answer.{Refusal, refusalOf, taken, refusal}
+use Rattle.tree.specs.Answer.{answerOf}
 
 pub record BuildOutcome : Type 0 where
-  pub refused : Refusal
+  pub answer : Answer ℤ (Unit {0})
   pub root : List ℕ
   pub tree : List ℕ
 
 abbrev pub outcomeOf : Built → List ℕ → BuildOutcome
-outcomeOf b t = record { refused = refusalOf (b .answer); root = b .root; tree = t }
+outcomeOf b t = record { answer = answerOf (b .answer); root = b .root; tree = t }
 
 abbrev pub refusedWith : ℕ → List ℕ → BuildOutcome
-refusedWith k t = record { refused = refusal k; root = replicate digestSize 0; tree = t }
+refusedWith k t = record { answer = refuse k []; root = replicate digestSize 0; tree = t }
 
 abbrev pub buildRows : ℕ → List ℕ → List ℕ → List ℕ → List (Bool × BuildOutcome)
 buildRows n s d t =
@@ -35,7 +37,7 @@ buildRows n s d t =
     (not (eqb (length t) (treeLength n)), refusedWith 1 t) ∷ []
 
 abbrev pub builtOf : ℕ → List ℕ → List ℕ → BuildOutcome
-builtOf n s d = record { refused = taken; root = rootOf (levelsOf n) s n d; tree = treeOf (levelsOf n) s n d }
+builtOf n s d = record { answer = taken tt; root = rootOf (levelsOf n) s n d; tree = treeOf (levelsOf n) s n d }
 
 unfoldable pub buildOf : ℕ → List ℕ → List ℕ → List ℕ → BuildOutcome
 buildOf n s d t = firstMet (buildRows n s d t) (builtOf n s d)

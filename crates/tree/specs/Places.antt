@@ -6,16 +6,16 @@
 -- parentsOf m       : in blocks, the hash blocks that hold the digests of m blocks
 -- levelsAbove f m   : in levels, those that lead from m blocks to one; f bounds the search, and any f of at least m is enough
 -- levelsOf n        : in levels, the tree over n data blocks
--- topOf h m         : in blocks, the highest of h levels above m blocks; the m blocks themselves where h is 0
 -- hashBlocksOf h m  : in blocks, all of h levels above m blocks
 -- firstBlockOf h m  : in blocks from the tree's start, where the level right above m blocks begins, h levels being above that level
 -- digestAt h m i    : in bytes from the tree's start, where the digest of block i of m stands, h levels being above the level that it stands in
 -- placesOf h m i    : in bytes from the tree's start, where the digests along the path of block i of m stand, the lowest first, one in each of h levels
 -- treeLength n      : in bytes, the tree over n data blocks
+-- lengthOf n        : the same for any count; 0 where n is out of range, so that there is no such tree
 use Prim.Native.Nat.{ℕ, zero, suc, _+_, _-_, _*_, _/_}
 use mathlib.Core.List.{List, [], _∷_}
-use lib.Dec.{ltb}
-use Rattle.octets.specs.Choice.{pick}
+use lib.Dec.{eqb, ltb}
+use Rattle.octets.specs.Choice.{pick, firstMet}
 
 -- ---- sizes and limits
 
@@ -56,10 +56,6 @@ levelsAbove (suc f) m = pick (ltb 1 m) (suc (levelsAbove f (parentsOf m))) 0
 unfoldable pub levelsOf : ℕ → ℕ
 levelsOf n = suc (levelsAbove n (parentsOf n))
 
-unfoldable pub topOf : ℕ → ℕ → ℕ
-topOf zero m = m
-topOf (suc h) m = topOf h (parentsOf m)
-
 unfoldable pub hashBlocksOf : ℕ → ℕ → ℕ
 hashBlocksOf zero m = 0
 hashBlocksOf (suc h) m = hashBlocksOf h (parentsOf m) + parentsOf m
@@ -79,3 +75,6 @@ placesOf (suc h) m i = digestAt h m i ∷ placesOf h (parentsOf m) (i / digestsP
 
 abbrev pub treeLength : ℕ → ℕ
 treeLength n = hashBlocksOf (levelsOf n) n * blockSize
+
+unfoldable pub lengthOf : ℕ → ℕ
+lengthOf n = firstMet ((eqb n 0, 0) ∷ (ltb mostBlocks n, 0) ∷ []) (treeLength n)

@@ -9,33 +9,35 @@ use Prim.Native.Nat.{ℕ, suc}
 use mathlib.Core.Bool.{Bool, not}
 use mathlib.Core.List.{List, [], _∷_, _++_}
 use lib.Dec.{eqb, ltb, leb}
+use lib.IntN.{ℤ}
 use lib.ListN.{length}
+use Rattle.octets.specs.Answer.{Answer, taken, refuse}
 use Rattle.octets.specs.Choice.{firstMet}
 use Rattle.octets.specs.Parts.{same}
 use Rattle.tree.specs.Places.{blockSize, digestSize, mostBlocks, longestSalt, levelsOf, placesOf, treeLength}
 use Rattle.tree.specs.Path.{computedOf, standingOf}
-use Rattle.tree.specs.Answer.{Refusal, taken, refusal, mismatch}
+use Rattle.tree.specs.Answer.{mismatch}
 
-abbrev pub loanRows : List ℕ → ℕ → List ℕ → ℕ → List ℕ → List ℕ → List (Bool × Refusal)
+abbrev pub loanRows : List ℕ → ℕ → List ℕ → ℕ → List ℕ → List ℕ → List (Bool × Answer ℤ (Unit {0}))
 loanRows b i t n s r =
-    (not (eqb (length b) blockSize), refusal 1) ∷
-    (not (eqb (length r) digestSize), refusal 1) ∷
-    (eqb n 0, refusal 2) ∷
-    (ltb mostBlocks n, refusal 2) ∷
-    (ltb longestSalt (length s), refusal 2) ∷
-    (leb n i, refusal 2) ∷
-    (not (eqb (length t) (treeLength n)), refusal 1) ∷ []
+    (not (eqb (length b) blockSize), refuse 1 []) ∷
+    (not (eqb (length r) digestSize), refuse 1 []) ∷
+    (eqb n 0, refuse 2 []) ∷
+    (ltb mostBlocks n, refuse 2 []) ∷
+    (ltb longestSalt (length s), refuse 2 []) ∷
+    (leb n i, refuse 2 []) ∷
+    (not (eqb (length t) (treeLength n)), refuse 1 []) ∷ []
 
-unfoldable pub pathRows : ℕ → List (List ℕ) → List (List ℕ) → List (Bool × Refusal)
+unfoldable pub pathRows : ℕ → List (List ℕ) → List (List ℕ) → List (Bool × Answer ℤ (Unit {0}))
 pathRows k [] ys = []
 pathRows k (x ∷ xs) [] = []
 pathRows k (x ∷ xs) (y ∷ ys) = pathRows (suc k) xs ys ++ ((not (same x y), mismatch k) ∷ [])
 
-abbrev pub comparedOf : List (List ℕ) → List (List ℕ) → Refusal
-comparedOf xs ys = firstMet (pathRows 0 xs ys) taken
+abbrev pub comparedOf : List (List ℕ) → List (List ℕ) → Answer ℤ (Unit {0})
+comparedOf xs ys = firstMet (pathRows 0 xs ys) (taken tt)
 
-unfoldable pub verifyOf : List ℕ → ℕ → List ℕ → ℕ → List ℕ → List ℕ → Refusal
+unfoldable pub verifyOf : List ℕ → ℕ → List ℕ → ℕ → List ℕ → List ℕ → Answer ℤ (Unit {0})
 verifyOf b i t n s r =
     firstMet
     (loanRows b i t n s r ++ pathRows 0 (computedOf s t b (placesOf (levelsOf n) n i)) (standingOf r t (placesOf (levelsOf n) n i)))
-    taken
+    (taken tt)

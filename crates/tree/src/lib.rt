@@ -4,14 +4,15 @@
 // specs/Theorems.antt. Counts and indexes are usize, 64 bits on every target: none is cut off before it is tested.
 mod level;
 mod path;
-pub mod places;
+mod places;
 
 ghost use Prim.Native.Nat.{_≤_};
 ghost use mathlib.Core.Path.{_≡_};
 ghost use lib.ListN.{length, replicate};
-ghost use Rattle.tree.specs.Places.{blockSize, digestSize, longestSalt};
+ghost use Rattle.octets.specs.Answer.{numberIn};
+ghost use Rattle.tree.specs.Places.{blockSize, digestSize, longestSalt, lengthOf};
 ghost use Rattle.tree.specs.Tree.{blockDigest};
-ghost use Rattle.tree.specs.Answer.{numberOf, refusalOf};
+ghost use Rattle.tree.specs.Answer.{answerOf};
 ghost use Rattle.tree.specs.Build.{outcomeOf, buildOf};
 ghost use Rattle.tree.specs.Verify.{verifyOf};
 
@@ -37,7 +38,7 @@ pub struct Built {
 
 // The number of an answer in document 01; 0 where it is no refusal.
 pub fn number(a: Answer) -> u32
-    ensures { λ r. ⌜ r ≡ numberOf a ⌝ }
+    ensures { λ r. ⌜ r ≡ numberIn (answerOf a) ⌝ }
 {
     match a {
         Answer::Taken => 0,
@@ -46,6 +47,19 @@ pub fn number(a: Answer) -> u32
         Answer::DataDiffers => 12,
         Answer::LevelDiffers(_) => 12,
     }
+}
+
+// The length in bytes of the tree over n data blocks; 0 where there cannot be so many.
+pub fn length(n: usize) -> usize
+    ensures { λ r. ⌜ r ≡ lengthOf n ⌝ }
+{
+    if n == 0 {
+        return 0;
+    }
+    if places::MOST_BLOCKS < n {
+        return 0;
+    }
+    places::tree_length(n)
 }
 
 // The digest of a block, the salt being put before it. Callers have tested both lengths.
@@ -102,7 +116,7 @@ pub fn verify(
     salt: &[u8],
     root: &[u8],
 ) -> Answer
-    ensures { λ r. ⌜ refusalOf r ≡ verifyOf (now (block .entry)) index (now (tree .entry)) count (now (salt .entry)) (now (root .entry)) ⌝ }
+    ensures { λ r. ⌜ answerOf r ≡ verifyOf (now (block .entry)) index (now (tree .entry)) count (now (salt .entry)) (now (root .entry)) ⌝ }
 {
     if block.len() != places::BLOCK_SIZE {
         return Answer::WrongLength;

@@ -9,7 +9,7 @@ ghost use lib.ListN.{length, getD, take};
 ghost use Rattle.octets.specs.Parts.{part, same};
 ghost use Rattle.tree.specs.Places.{blockSize, digestSize, mostBlocks, mostLevels, longestSalt, placesOf};
 ghost use Rattle.tree.specs.Path.{computedOf, standingOf};
-ghost use Rattle.tree.specs.Answer.{refusalOf, mismatch};
+ghost use Rattle.tree.specs.Answer.{mismatch, answerOf};
 ghost use Rattle.tree.specs.Verify.{comparedOf};
 
 // Where the digests along the path of block i of m stand, the lowest first.
@@ -54,7 +54,7 @@ pub(crate) fn computed(
 
 // The refusal 12 at place k on the path.
 fn differs(k: usize) -> Answer
-    ensures { λ r. ⌜ refusalOf r ≡ mismatch k ⌝ }
+    ensures { λ r. ⌜ answerOf r ≡ mismatch k ⌝ }
 {
     if k == 0 {
         return Answer::DataDiffers;
@@ -79,7 +79,7 @@ pub(crate) fn compare(
     root: &[u8],
 ) -> Answer
     requires { ⌜ (h ≤ mostLevels) × (length (now root) ≡ digestSize) × ((j : ℕ) → j < h → getD at j 0 + digestSize ≤ length (now tree)) ⌝ }
-    ensures { λ r. ⌜ refusalOf r ≡ comparedOf (take (h + 1) digests) (standingOf (now (root .entry)) (now (tree .entry)) (take h at)) ⌝ }
+    ensures { λ r. ⌜ answerOf r ≡ comparedOf (take (h + 1) digests) (standingOf (now (root .entry)) (now (tree .entry)) (take h at)) ⌝ }
 {
     let top = digests[h];
     if !stands(top, root, 0) {

@@ -15,7 +15,7 @@ pub(crate) const DIGEST_SIZE: usize = 32;
 pub(crate) const DIGESTS_PER_BLOCK: usize = 128;
 
 // The most data blocks.
-pub const MOST_BLOCKS: usize = 16384;
+pub(crate) const MOST_BLOCKS: usize = 16384;
 
 // The longest salt, in bytes.
 pub(crate) const LONGEST_SALT: usize = 32;
@@ -78,7 +78,7 @@ pub(crate) fn digest_at(h: usize, m: usize, i: usize) -> usize
 }
 
 // The length in bytes of the tree over n data blocks.
-pub fn tree_length(n: usize) -> usize
+pub(crate) fn tree_length(n: usize) -> usize
     requires { ⌜ n ≤ mostBlocks ⌝ }
     ensures { λ r. ⌜ r ≡ treeLength n ⌝ }
 {

@@ -1,14 +1,15 @@
--- A level is read back from its bytes.
+-- The theorem of specs/Theorems: a level is read back from its bytes.
 use Prim.Native.Nat.{_-_, _^_}
 use native.Mathlib.Omega.{arith}
 use mathlib.Core.Path.{_≡_}
-use lib.IntN.{ℤ, pos, negsuc}
+use lib.IntN.{pos, negsuc}
 use borrow.Author.Tests.{lt-ltb, le-ltb}
 use Rattle.octets.specs.Numbers.{le, value}
 use Rattle.octets.proofs.Numbers.{value-le}
-use Rattle.tree_calls.specs.HashTree.{levelSize, levelBytesOf, levelIn, IsLevel}
+use Rattle.tree_calls.specs.HashTree.{levelSize}
+use Rattle.tree_calls.specs.Theorems.{LevelBack}
 
-pub level-back : (v : ℤ) → IsLevel v → levelIn (levelBytesOf v) ≡ v
+pub level-back : LevelBack
 level-back (pos n) h =
     let e : value (le levelSize n) ≡ n = value-le levelSize n (omega arith) in
     rw (e, lt-ltb n (2 ^ 31) h)

@@ -8,25 +8,28 @@
 -- levelBytesOf v            : the level v in such a buffer: little-endian, a negative one in two's complement
 -- levelIn b                 : the level in the bytes b of such a buffer
 -- IsLevel v                 : the level v is one that 32 bits hold
--- levelBufferOf vs l        : what a level's buffer l holds where a call also returns the values vs: the level among them; l where there is none
+-- levelBufferOf a l         : what a level's buffer l holds where the answer is a: the level that is also returned; l where none is
 -- verifyCall b i t n s r l  : what gaffreel_tree_verify leaves of the data block b, index i, tree t, count n, salt s, root digest r and level's buffer l
 use Prim.Native.Nat.{ℕ, _-_, _^_, _<_}
+use mathlib.Core.Bool.{not}
 use mathlib.Core.List.{List, [], _∷_}
 use lib.Dec.{eqb, ltb}
 use lib.IntN.{ℤ, pos, negsuc}
 use lib.ListN.{length}
 use Rattle.octets.specs.Numbers.{le, value}
+use Rattle.octets.specs.Answer.{Answer, taken, refused, isTaken, numberIn}
 use Rattle.octets.specs.Choice.{pick, firstMet}
-use Rattle.tree.specs.Places.{digestSize, mostBlocks, treeLength}
+use Rattle.tree.specs.Places.{digestSize, lengthOf}
 use Rattle.tree.specs.Build.{buildOf}
 use Rattle.tree.specs.Verify.{verifyOf}
 use Rattle.buffers.specs.Done.{done}
-use Rattle.digest_calls.specs.Outcome.{Outcome, wrongLength, refused, differs}
+use Rattle.digest_calls.specs.Outcome as call
+use Rattle.digest_calls.specs.Outcome.{Outcome, wrongLength, differs}
 
 -- ---- length
 
-unfoldable pub lengthCall : ℕ → ℕ
-lengthCall n = firstMet ((eqb n 0, 0) ∷ (ltb mostBlocks n, 0) ∷ []) (treeLength n)
+abbrev pub lengthCall : ℕ → ℕ
+lengthCall n = lengthOf n
 
 -- ---- build
 
@@ -44,7 +47,7 @@ unfoldable pub buildCall : ℕ → List ℕ → List ℕ → List ℕ → List �
 buildCall n s d t r =
     firstMet
     ((differs (length r) digestSize, refusedBuild wrongLength t r) ∷
-    (differs (buildOf n s d t .refused .number) done, refusedBuild (buildOf n s d t .refused .number) t r) ∷
+    (not (isTaken (buildOf n s d t .answer)), refusedBuild (numberIn (buildOf n s d t .answer)) t r) ∷
     [])
     (record { number = done; tree = buildOf n s d t .tree; root = buildOf n s d t .root })
 
@@ -65,12 +68,17 @@ abbrev pub IsLevel : ℤ → Type 0
 IsLevel (pos n) = n < 2 ^ 31
 IsLevel (negsuc n) = n < 2 ^ 31
 
-abbrev pub levelBufferOf : List ℤ → List ℕ → List ℕ
-levelBufferOf [] l = l
-levelBufferOf (v ∷ vs) l = levelBytesOf v
+-- the first of the values vs as a level; l where there is none
+abbrev pub firstLevelOf : List ℤ → List ℕ → List ℕ
+firstLevelOf [] l = l
+firstLevelOf (v ∷ vs) l = levelBytesOf v
+
+abbrev pub levelBufferOf : Answer ℤ (Unit {0}) → List ℕ → List ℕ
+levelBufferOf (taken x) l = l
+levelBufferOf (refused r) l = firstLevelOf (r .values) l
 
 unfoldable pub verifyCall : List ℕ → ℕ → List ℕ → ℕ → List ℕ → List ℕ → List ℕ → Outcome
 verifyCall b i t n s r l =
     firstMet
-    ((differs (length l) levelSize, refused wrongLength l) ∷ [])
-    (record { number = verifyOf b i t n s r .number; buffer = levelBufferOf (verifyOf b i t n s r .values) l })
+    ((differs (length l) levelSize, call.refused wrongLength l) ∷ [])
+    (record { number = numberIn (verifyOf b i t n s r); buffer = levelBufferOf (verifyOf b i t n s r) l })

@@ -7,7 +7,7 @@ use digest_calls::WRONG_LENGTH;
 use tree::Answer;
 ghost use mathlib.Core.Path.{_≡_};
 ghost use lib.ListN.{length};
-ghost use Rattle.tree.specs.Answer.{valuesOf};
+ghost use Rattle.tree.specs.Answer.{answerOf};
 ghost use Rattle.tree_calls.specs.HashTree.{levelSize, levelBufferOf, lengthCall, buildCall, verifyCall};
 
 // The length of a level's buffer, in bytes.
@@ -20,13 +20,7 @@ const DATA_LEVEL: u64 = 4294967295;
 pub fn tree_length(count: usize) -> usize
     ensures { λ r. ⌜ r ≡ lengthCall count ⌝ }
 {
-    if count == 0 {
-        return 0;
-    }
-    if tree::places::MOST_BLOCKS < count {
-        return 0;
-    }
-    tree::places::tree_length(count)
+    tree::length(count)
 }
 
 // The tree over an image of so many data blocks, and its root digest. Refused where the root digest's buffer has a wrong length, or as
@@ -72,7 +66,7 @@ pub fn verify(
 // The level that an answer names, written over a buffer of its length; an answer that names none leaves the buffer as it was.
 fn put_level(a: Answer, buffer: &mut [u8])
     requires { ⌜ length (now buffer) ≡ levelSize ⌝ }
-    ensures { λ _. ⌜ now (buffer .exit) ≡ levelBufferOf (valuesOf a) (now (buffer .entry)) ⌝ }
+    ensures { λ _. ⌜ now (buffer .exit) ≡ levelBufferOf (answerOf a) (now (buffer .entry)) ⌝ }
 {
     match a {
         Answer::Taken => {}

@@ -12,10 +12,10 @@ use lib.ListN.{length, getD, replicate, length-replicate}
 use borrow.Author.Tests.{eq-eqb, ne-eqb, lt-ltb, le-leb, lt-leb, leb-false, ltb-false, not-false}
 use Rattle.octets.specs.Answer.{Refusal, taken, refused, refuse, isTaken}
 use Rattle.octets.proofs.Answers.{taken-same, refused-not-taken}
-use Rattle.octets.specs.Choice.{pick, firstMet, Unmet, NoneAnswers}
+use Rattle.octets.specs.Choice.{pick, firstMet}
 use Rattle.octets.specs.Parts.{same}
 use Rattle.octets.specs.Sectors.{sectorAt}
-use Rattle.octets.proofs.Choice.{passes, unmet, met}
+use Rattle.octets.proofs.Choice.{Unmet, NoneAnswers, passes, unmet, met}
 use Rattle.model.specs.declared.Layout.{Layout}
 use Rattle.model.specs.declared.Phase.{Phase}
 use Rattle.model.specs.declared.Phase.the-variants.{Filling, Recovering}

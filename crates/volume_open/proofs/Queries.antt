@@ -8,10 +8,10 @@ use native.Mathlib.Omega.{arith}
 use lib.ListN.{length}
 use borrow.Author.Tests.{lt-ltb, le-ltb, ltb-false, not-false}
 use Rattle.octets.specs.Answer.{Answer, Refusal, taken, refused, refuse}
-use Rattle.octets.specs.Choice.{firstMet, Unmet, NoneAnswers}
+use Rattle.octets.specs.Choice.{firstMet}
 use Rattle.octets.specs.Parts.{same}
 use Rattle.octets.proofs.Answers.{taken-same, refused-not-taken}
-use Rattle.octets.proofs.Choice.{unmet}
+use Rattle.octets.proofs.Choice.{Unmet, NoneAnswers, unmet}
 use Rattle.model.specs.declared.Layout.{Layout}
 use Rattle.model.specs.Layout.{sectionSize, needed, layoutOk}
 use Rattle.model.specs.Superblock.{superblockOf, superblockAt, layoutIn, isZero, superblockOk}

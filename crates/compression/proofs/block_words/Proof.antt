@@ -1,7 +1,8 @@
 use Prim.Native.Nat.{_-_, _≤_}
 use mathlib.Core.Path.{refl, _≡_}
 use native.Mathlib.Omega.{arith}
-use lib.ListN.{length, take, length-set}
+use mathlib.Core.List.{_++_}
+use lib.ListN.{length, replicate, length-set}
 use borrow.Author.Needs.{needs}
 use Rattle.compression.proofs.Turns.{block-turn}
 use Rattle.compression.specs.Compression.{scheduleOf}
@@ -9,7 +10,7 @@ use Rattle.compression.proofs.block_words.Statement.{statement}
 use Rattle.compression.proofs.block_words.Tie as tie
 
 abbrev Inv-loop : tie.InvT-loop
-Inv-loop b w₀ t₀ w t = (t ≤ 16) × (length w ≡ 64) × (take t w ≡ scheduleOf t b)
+Inv-loop b w₀ t₀ w t = (t ≤ 16) × (length w ≡ 64) × (w ≡ scheduleOf t b ++ replicate (64 - t) 0)
 
 abbrev μ-loop : tie.MeasureT-loop
 μ-loop b w₀ t₀ w t = 16 - t
@@ -23,7 +24,7 @@ loop-again c =
     let turn = c .before .before .loop in (
       omega arith,
       simp length-set (search needs),
-      block-turn _ (turn .w) (turn .t) (c .word .result) (omega arith) (omega arith) (turn .inv .2) (c .word .ensures),
+      block-turn _ (turn .w) (turn .t) (c .word .result) (omega arith) (turn .inv .2) (c .word .ensures),
     )
 
 returns : tie.Need-returns Inv-loop μ-loop

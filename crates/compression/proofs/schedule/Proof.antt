@@ -4,7 +4,7 @@ use native.Mathlib.Omega.{arith}
 use lib.Seq.{take-all}
 use lib.ListN.{length, getD, take, length-set}
 use borrow.Author.Needs.{needs}
-use Rattle.compression.proofs.Turns.{schedule-turn}
+use Rattle.compression.proofs.Turns.{block-front, schedule-turn}
 use Rattle.compression.specs.Words.{_⊞_}
 use Rattle.compression.specs.Compression.{scheduleOf}
 use Rattle.compression.proofs.schedule.Statement.{statement}
@@ -17,7 +17,7 @@ abbrev μ-loop : tie.MeasureT-loop
 μ-loop b w₀ t₀ w t = 64 - t
 
 loop-holds : tie.Need-loop-holds Inv-loop μ-loop
-loop-holds c = (search needs, search needs, c .block-words .ensures .1, c .block-words .ensures .0)
+loop-holds c = (search needs, search needs, c .block-words .ensures .1, block-front _ _ (c .block-words .ensures .0))
 
 loop-again : tie.Need-loop-again Inv-loop μ-loop
 loop-again c =

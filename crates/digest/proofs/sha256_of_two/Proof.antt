@@ -9,19 +9,19 @@ use Rattle.digest.proofs.sha256_of_two.Tie as tie
 returns : tie.Need-returns
 returns c =
     let u = c .before .before .before .update in
-    first-past (c .before .before .before .before .before .before .before .args .first .now) (c .before .before .before .before .before .before .before .args .second .now) (u .result) (u .result) (c .refused-digest .result) (u .ensures ∙ ap (λ (s : State). updateOf s (c .before .before .before .before .before .before .before .args .first .now)) (c .before .before .before .before .fresh .ensures)) (c .before .enum-told2 .given .1) (c .refused-digest .ensures)
+    first-past (c .before .before .before .before .before .before .before .args .first .now) (c .before .before .before .before .before .before .before .args .second .now) (u .result) (u .result) _ (u .ensures ∙ ap (λ (s : State). updateOf s (c .before .before .before .before .before .before .before .args .first .now)) (c .before .before .before .before .fresh .ensures)) (c .before .enum-told2 .given .1) (c .refused-digest .ensures)
 
 returns-2 : tie.Need-returns-2
 returns-2 c =
     let u = c .before .before .before .before .before .before .before .update in
     let v = c .before .before .before .update2 in
-    both-past (c .before .before .before .before .before .before .before .before .before .before .before .args .first .now) (c .before .before .before .before .before .before .before .before .before .before .before .args .second .now) (u .result) (v .result) (c .refused-digest2 .result) (u .ensures ∙ ap (λ (s : State). updateOf s (c .before .before .before .before .before .before .before .before .before .before .before .args .first .now)) (c .before .before .before .before .before .before .before .before .fresh .ensures)) (c .before .before .before .before .before .enum-told .given .1) (v .ensures) (c .before .enum-told4 .given .1) (c .refused-digest2 .ensures)
+    both-past (c .before .before .before .before .before .before .before .before .before .before .before .args .first .now) (c .before .before .before .before .before .before .before .before .before .before .before .args .second .now) (u .result) (v .result) _ (u .ensures ∙ ap (λ (s : State). updateOf s (c .before .before .before .before .before .before .before .before .before .before .before .args .first .now)) (c .before .before .before .before .before .before .before .before .fresh .ensures)) (c .before .before .before .before .before .enum-told .given .1) (v .ensures) (c .before .enum-told4 .given .1) (c .refused-digest2 .ensures)
 
 returns-3 : tie.Need-returns-3
 returns-3 c =
     let u = c .before .before .before .before .before .before .before .before .update in
     let v = c .before .before .before .before .update2 in
-    both-fit (c .before .before .before .before .before .before .before .before .before .before .before .before .args .first .now) (c .before .before .before .before .before .before .before .before .before .before .before .before .args .second .now) (u .result) (v .result) (c .finish .result) (u .ensures ∙ ap (λ (s : State). updateOf s (c .before .before .before .before .before .before .before .before .before .before .before .before .args .first .now)) (c .before .before .before .before .before .before .before .before .before .fresh .ensures)) (c .before .before .before .before .before .before .enum-told .given .1) (v .ensures) (c .before .before .enum-told3 .given .1) (c .finish .ensures)
+    both-fit (c .before .before .before .before .before .before .before .before .before .before .before .before .args .first .now) (c .before .before .before .before .before .before .before .before .before .before .before .before .args .second .now) (u .result) (v .result) _ (u .ensures ∙ ap (λ (s : State). updateOf s (c .before .before .before .before .before .before .before .before .before .before .before .before .args .first .now)) (c .before .before .before .before .before .before .before .before .before .fresh .ensures)) (c .before .before .before .before .before .before .enum-told .given .1) (v .ensures) (c .before .before .enum-told3 .given .1) (c .finish .ensures)
 
 pub sha256-of-two-spec : {M : Type 1} → statement M
 sha256-of-two-spec =

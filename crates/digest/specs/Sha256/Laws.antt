@@ -109,10 +109,6 @@ unfolding absorbOf filledOf
 length-tail s p =
     rw (length-append, length-replicate, length-drop) (omega arith)
 
-pub count-absorb : (s : State) (p : List ℕ) → absorbOf s p .count ≡ s .count + length p
-unfolding absorbOf
-count-absorb s p = refl
-
 pub words-absorb : (m : List ℕ) → absorbOf freshOf m .words ≡ hashOf (length m / 64) initialHash m
 unfolding absorbOf
 words-absorb m = refl

@@ -7,15 +7,15 @@ use mathlib.Core.Path.{_≡_, refl, ap, _∙_}
 use mathlib.Core.List.{List, [], _∷_, _++_, append-assoc, append-nil, flatten}
 use lib.ListN.{length, length-append}
 use borrow.Author.Tests.{le-ltb, lt-ltb}
+use Rattle.octets.specs.Answer.{taken}
 use Rattle.octets.specs.Numbers.{Bytes}
-use Rattle.digest.specs.declared.Answer.the-variants.{Taken}
 use Rattle.digest.specs.declared.State.{State}
 use Rattle.compression.specs.Constants.{initialHash}
 use Rattle.compression.specs.Compression.{hashOf}
 use Rattle.digest.specs.Padding.{paddingOf, bytesOf}
 use Rattle.digest.specs.Pieces.{limit, freshOf, absorbOf, refusedPieceOf, updateOf, closeOf, finishOf, digestOf}
 use Rattle.digest.specs.Sha256.{sha256, paddedOf}
-use Rattle.digest.specs.Sha256.Laws.{length-hash, length-bytesOf, bytes-bytesOf, absorb-append, count-absorb, words-absorb, fresh-holds-nothing}
+use Rattle.digest.specs.Sha256.Laws.{length-hash, length-bytesOf, bytes-bytesOf, absorb-append, words-absorb, fresh-holds-nothing}
 
 -- ---- the digest's bytes
 
@@ -32,7 +32,7 @@ bytes-sha256 m = bytes-bytesOf _
 -- ---- pieces
 
 -- a piece that fits is taken
-pub update-taken : (s : State) (p : List ℕ) → s .count + length p ≤ limit → updateOf s p ≡ record { answer = Taken; state = absorbOf s p }
+pub update-taken : (s : State) (p : List ℕ) → s .count + length p ≤ limit → updateOf s p ≡ record { answer = taken tt; state = absorbOf s p }
 unfolding updateOf
 update-taken s p fits = rw (le-ltb limit (s .count + length p) fits)
 
@@ -40,6 +40,11 @@ update-taken s p fits = rw (le-ltb limit (s .count + length p) fits)
 pub update-refused : (s : State) (p : List ℕ) → limit < s .count + length p → updateOf s p ≡ refusedPieceOf s
 unfolding updateOf
 update-refused s p past = rw (lt-ltb limit (s .count + length p) past)
+
+-- the count of what was added
+pub count-absorb : (s : State) (p : List ℕ) → absorbOf s p .count ≡ s .count + length p
+unfolding absorbOf
+count-absorb s p = refl
 
 -- two pieces that fit together are as the one that they make
 pub update-append : (s : State) (p q : List ℕ) → length (s .tail) ≡ 64 → s .count + length (p ++ q) ≤ limit
@@ -75,7 +80,7 @@ close-whole m =
     ∙ ap (λ (s : State). s .words) (absorb-append freshOf m (paddingOf (length m)) refl) ∙ words-absorb (m ++ paddingOf (length m)))
 
 -- whatever pieces a message comes in, closing gives its digest
-pub closing : (ps : List (List ℕ)) → length (flatten ps) ≤ limit → finishOf (addAll freshOf ps) ≡ record { answer = Taken; digest = sha256 (flatten ps) }
+pub closing : (ps : List (List ℕ)) → length (flatten ps) ≤ limit → finishOf (addAll freshOf ps) ≡ record { answer = taken tt; digest = sha256 (flatten ps) }
 unfolding finishOf
 closing ps fits =
     let state : addAll freshOf ps ≡ absorbOf freshOf (flatten ps) = ap (λ (s : State). addAll s ps) fresh-holds-nothing ∙ add-all ps [] fits in
@@ -83,6 +88,6 @@ closing ps fits =
     rw (state, le-ltb limit _ count, close-whole (flatten ps))
 
 -- the digest of a message that is not too long
-pub digest-taken : (m : List ℕ) → length m ≤ limit → digestOf m ≡ record { answer = Taken; digest = sha256 m }
+pub digest-taken : (m : List ℕ) → length m ≤ limit → digestOf m ≡ record { answer = taken tt; digest = sha256 m }
 unfolding digestOf
 digest-taken m fits = rw (le-ltb limit (length m) fits)

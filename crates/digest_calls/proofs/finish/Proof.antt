@@ -10,10 +10,10 @@ returns-2 : tie.Need-returns-2
 returns-2 c = finish-wrong-digest (c .before .before .before .before .args .state .now) (c .before .before .before .before .args .digest .now) (c .before .if1 .left) (c .if2 .taken)
 
 returns-3 : tie.Need-returns-3
-returns-3 c = finish-refused (c .before .before .before .before .before .before .before .before .args .state .now) (c .before .before .before .before .before .before .before .before .args .digest .now) (c .before .before .before .before .before .if1 .left) (c .before .before .before .before .if2 .left) (c .before .before .before .decode .ensures) (c .before .before .finish .ensures) (c .before .number .ensures) (c .if3 .taken)
+returns-3 c = finish-refused (c .before .before .before .before .before .before .before .before .args .state .now) (c .before .before .before .before .before .before .before .before .args .digest .now) (c .before .before .before .before .before .if1 .left) (c .before .before .before .before .if2 .left) (c .before .before .finish .result) (c .before .before .before .decode .ensures) (c .before .before .finish .ensures) (c .before .number .ensures) (c .if3 .taken)
 
 returns-4 : tie.Need-returns-4
-returns-4 c = finish-done (c .before .before .before .before .before .before .before .before .before .before .before .before .before .args .state .now) (c .before .before .before .before .before .before .before .before .before .before .before .before .before .args .digest .now) (c .before .before .before .before .before .before .before .before .before .before .if1 .left) (c .before .before .before .before .before .before .before .before .before .if2 .left) (c .before .before .before .before .before .before .before .before .decode .ensures) (c .before .before .before .before .before .before .before .finish .ensures) (c .before .before .before .before .before .before .number .ensures) (c .before .before .before .before .before .if3 .left) (c .before .before .put-digest .ensures)
+returns-4 c = finish-done (c .before .before .before .before .before .before .before .before .before .before .before .before .before .args .state .now) (c .before .before .before .before .before .before .before .before .before .before .before .before .before .args .digest .now) (c .before .before .before .before .before .before .before .before .before .before .if1 .left) (c .before .before .before .before .before .before .before .before .before .if2 .left) (c .before .before .before .before .before .before .before .finish .result) (c .before .before .before .before .before .before .before .before .decode .ensures) (c .before .before .before .before .before .before .before .finish .ensures) (c .before .before .before .before .before .before .number .ensures) (c .before .before .before .before .before .if3 .left) (c .before .before .put-digest .ensures)
 
 pub finish-spec : {M : Type 1} → statement M
 finish-spec =

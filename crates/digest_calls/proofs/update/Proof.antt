@@ -7,10 +7,10 @@ returns : tie.Need-returns
 returns c = update-wrong (c .before .before .before .args .state .now) (c .before .before .before .args .piece .now) (c .if1 .taken)
 
 returns-2 : tie.Need-returns-2
-returns-2 c = update-refused (c .before .before .before .before .before .before .before .before .args .state .now) (c .before .before .before .before .before .before .before .before .args .piece .now) (c .before .before .before .before .before .if1 .left) (c .before .before .before .decode .ensures) (c .before .before .update .ensures) (c .before .number .ensures) (c .if2 .taken)
+returns-2 c = update-refused (c .before .before .before .before .before .before .before .before .args .state .now) (c .before .before .before .before .before .before .before .before .args .piece .now) (c .before .before .before .before .before .if1 .left) (c .before .before .update .result) (c .before .before .before .decode .ensures) (c .before .before .update .ensures) (c .before .number .ensures) (c .if2 .taken)
 
 returns-3 : tie.Need-returns-3
-returns-3 c = update-done (c .before .before .before .before .before .before .before .before .before .before .before .before .before .args .state .now) (c .before .before .before .before .before .before .before .before .before .before .before .before .before .args .piece .now) (c .before .before .before .before .before .before .before .before .before .before .if1 .left) (c .before .before .before .before .before .before .before .before .decode .ensures) (c .before .before .before .before .before .before .before .update .ensures) (c .before .before .before .before .before .before .number .ensures) (c .before .before .before .before .before .if2 .left) (c .before .before .encode .ensures)
+returns-3 c = update-done (c .before .before .before .before .before .before .before .before .before .before .before .before .before .args .state .now) (c .before .before .before .before .before .before .before .before .before .before .before .before .before .args .piece .now) (c .before .before .before .before .before .before .before .before .before .before .if1 .left) (c .before .before .before .before .before .before .before .update .result) (c .before .before .before .before .before .before .before .before .decode .ensures) (c .before .before .before .before .before .before .before .update .ensures) (c .before .before .before .before .before .before .number .ensures) (c .before .before .before .before .before .if2 .left) (c .before .before .encode .ensures)
 
 pub update-spec : {M : Type 1} → statement M
 update-spec =

@@ -7,10 +7,10 @@ returns : tie.Need-returns
 returns c = sha256-wrong (c .before .before .before .args .message .now) (c .before .before .before .args .digest .now) (c .if1 .taken)
 
 returns-2 : tie.Need-returns-2
-returns-2 c = sha256-refused (c .before .before .before .before .before .before .args .message .now) (c .before .before .before .before .before .before .args .digest .now) (c .before .before .before .if1 .left) (c .before .before .sha256 .ensures) (c .before .number .ensures) (c .if2 .taken)
+returns-2 c = sha256-refused (c .before .before .before .before .before .before .args .message .now) (c .before .before .before .before .before .before .args .digest .now) (c .before .before .before .if1 .left) (c .before .before .sha256 .result) (c .before .before .sha256 .ensures) (c .before .number .ensures) (c .if2 .taken)
 
 returns-3 : tie.Need-returns-3
-returns-3 c = sha256-done (c .before .before .before .before .before .before .before .before .before .before .before .args .message .now) (c .before .before .before .before .before .before .before .before .before .before .before .args .digest .now) (c .before .before .before .before .before .before .before .before .if1 .left) (c .before .before .before .before .before .before .before .sha256 .ensures) (c .before .before .before .before .before .before .number .ensures) (c .before .before .before .before .before .if2 .left) (c .before .before .put-digest .ensures)
+returns-3 c = sha256-done (c .before .before .before .before .before .before .before .before .before .before .before .args .message .now) (c .before .before .before .before .before .before .before .before .before .before .before .args .digest .now) (c .before .before .before .before .before .before .before .before .if1 .left) (c .before .before .before .before .before .before .before .sha256 .result) (c .before .before .before .before .before .before .before .sha256 .ensures) (c .before .before .before .before .before .before .number .ensures) (c .before .before .before .before .before .if2 .left) (c .before .before .put-digest .ensures)
 
 pub whole-spec : {M : Type 1} → statement M
 whole-spec =

@@ -1,9 +1,11 @@
-use Prim.Native.Nat.{_-_, _*_, _≤_}
+use Prim.Native.Nat.{ℕ, _-_, _≤_}
+use mathlib.Core.List.{List}
 use mathlib.Core.Path.{refl, ap, _∙_, _≡_}
 use native.Mathlib.Omega.{arith}
 use lib.Seq.{take-all}
 use lib.ListN.{length, take}
 use borrow.Author.Needs.{needs}
+use Rattle.octets.specs.Parts.{patch}
 use Rattle.buffers.specs.Numbers.{numberBytes}
 use Rattle.digest_state.specs.DigestState.{stateSize, wordBytesOf}
 use Rattle.digest_state.proofs.DigestStates.{put-turn}
@@ -11,7 +13,7 @@ use Rattle.digest_state.proofs.put_words.Statement.{statement}
 use Rattle.digest_state.proofs.put_words.Tie as tie
 
 abbrev Inv-loop : tie.InvT-loop
-Inv-loop buffer₀ words i₀ buffer i = (i ≤ 8) × (length words ≡ 8) × (length buffer ≡ stateSize) × (take (4 * i) buffer ≡ wordBytesOf (take i words))
+Inv-loop buffer₀ words i₀ buffer i = (i ≤ 8) × (length words ≡ 8) × (length buffer ≡ stateSize) × (buffer ≡ patch buffer₀ 0 (wordBytesOf (take i words)))
 
 abbrev μ-loop : tie.MeasureT-loop
 μ-loop buffer₀ words i₀ buffer i = 8 - i
@@ -26,14 +28,15 @@ loop-again c =
       omega arith,
       search needs,
       c .before .before .put-number .kept .0 ∙ turn .inv .2,
-      put-turn (c .before .before .before .before .before .before .before .before .args .t1) (turn .buffer) (c .before .before .put-number .last .0) (turn .i) (c .before .before .before .wide .result) (omega arith) (omega arith) (turn .inv .3) (c .before .before .before .wide .ensures) (c .before .before .put-number .ensures),
+      put-turn (c .before .before .before .before .before .before .before .before .args .t1) _ (turn .buffer) (c .before .before .put-number .last .0) (turn .i) (c .before .before .before .wide .result) (omega arith) (omega arith) (turn .inv .3) (c .before .before .before .wide .ensures) (c .before .before .put-number .ensures),
     )
 
 returns : tie.Need-returns Inv-loop μ-loop
 returns c =
     let turn = c .before .loop in
     let e : turn .i ≡ 8 = omega arith in
-    (rw e at (turn .inv .3)) ∙ ap wordBytesOf (take-all 8 (c .before .before .before .args .t1) (omega arith))
+    let all : take 8 (c .before .before .before .args .t1) ≡ c .before .before .before .args .t1 = take-all 8 (c .before .before .before .args .t1) (omega arith) in
+    ((rw e at (turn .inv .3)) ∙ ap (λ (ws : List ℕ). patch (c .before .before .before .args .buffer .now) 0 (wordBytesOf ws)) all, turn .inv .1)
 
 pub put-words-spec : {M : Type 1} → statement M
 put-words-spec =

@@ -8,7 +8,7 @@ use borrow.Author.Needs.{needs}
 use Rattle.tree.specs.declared.Answer.{Answer}
 use Rattle.tree.specs.declared.Built.{Built}
 use Rattle.tree.specs.Places.{digestSize}
-use Rattle.tree.specs.Answer.{refusalOf}
+use Rattle.tree.specs.Answer.{answerOf}
 use Rattle.tree.specs.Build.{outcomeOf}
 use Rattle.tree.proofs.Returns.{build-none, build-many, build-salt, build-image, build-tree, build-made}
 use Rattle.tree.proofs.build.Statement.{statement}
@@ -16,7 +16,7 @@ use Rattle.tree.proofs.build.Tie as tie
 
 -- what a refusal comes to
 refused-with : (b : Built) (a : Answer) (t : List ℕ) → b .answer ≡ a → b .root ≡ replicate digestSize 0
-    → outcomeOf b t ≡ record { refused = refusalOf a; root = replicate digestSize 0; tree = t }
+    → outcomeOf b t ≡ record { answer = answerOf a; root = replicate digestSize 0; tree = t }
 refused-with b a t ea er = rw (ea, er)
 
 returns : tie.Need-returns

@@ -2,12 +2,13 @@ use Prim.Native.Nat.{ℕ, _+_, _*_}
 use native.Mathlib.Omega.{arith}
 use mathlib.Core.List.{List}
 use mathlib.Core.Path.{_≡_, sym, ap, _∙_}
+use lib.IntN.{ℤ}
 use lib.ListN.{length, take}
 use denote.Ref.{now}
 use borrow.Author.Needs.{needs}
+use Rattle.octets.specs.Answer.{Answer}
 use Rattle.tree.specs.Places.{blockSize, levelsOf, hashBlocksOf, placesOf}
 use Rattle.tree.specs.Path.{computedOf, standingOf}
-use Rattle.tree.specs.Answer.{Refusal}
 use Rattle.tree.specs.Verify.{comparedOf}
 use Rattle.tree.proofs.PlaceLaws.{block-in, digest-in}
 use Rattle.tree.proofs.Returns.{verify-block, verify-root, verify-none, verify-many, verify-salt, verify-index, verify-tree, verify-path}
@@ -15,7 +16,7 @@ use Rattle.tree.proofs.verify.Statement.{statement}
 use Rattle.tree.proofs.verify.Tie as tie
 
 -- what the parts come to: h, the places and the digests as their arrays hold them
-parts : (h n i : ℕ) (s t b r ps : List ℕ) (ds : List (List ℕ)) (v : Refusal) → h ≡ levelsOf n → take h ps ≡ placesOf h n i → take (h + 1) ds ≡ computedOf s t b (take h ps)
+parts : (h n i : ℕ) (s t b r ps : List ℕ) (ds : List (List ℕ)) (v : Answer ℤ (Unit {0})) → h ≡ levelsOf n → take h ps ≡ placesOf h n i → take (h + 1) ds ≡ computedOf s t b (take h ps)
     → v ≡ comparedOf (take (h + 1) ds) (standingOf r t (take h ps))
     → v ≡ comparedOf (computedOf s t b (placesOf (levelsOf n) n i)) (standingOf r t (placesOf (levelsOf n) n i))
 parts h n i s t b r ps ds v eh ep ed ev =
