@@ -10,14 +10,12 @@ use lib.IntN.{ℤ, pos, negsuc}
 use lib.ListN.{length, replicate}
 use Rattle.octets.specs.Answer.{Answer, taken, refused, numberIn}
 use Rattle.octets.specs.Parts.{same}
-use Rattle.model.specs.declared.FormatAnswer.{FormatAnswer}
-use Rattle.model.specs.declared.FormatAnswer.the-variants as format
 use Rattle.model.specs.declared.Layout.{Layout}
 use Rattle.model.specs.declared.Phase.the-variants.{Filling}
 use Rattle.model.specs.declared.State.{State}
-use Rattle.model.specs.declared.WriteAnswer.{WriteAnswer}
-use Rattle.model.specs.declared.WriteAnswer.the-variants as write
-use Rattle.model.specs.Refusal.{numberOf, valuesOf}
+use Rattle.model.specs.declared.Refusal.{Refusal}
+use Rattle.model.specs.declared.Refusal.the-variants as volume
+use Rattle.model.specs.Refusal.{refusalOf}
 use Rattle.model.specs.Layout.{widthOk, layoutOk, entrySize, perSector, entryCount, sectionSize, tagArea, dataAt, tagByte, needed}
 use Rattle.model.specs.Section.{emptySection}
 use Rattle.model.specs.Journal.{sectionFor}
@@ -46,13 +44,9 @@ abbrev journalled : ℕ → Layout
 journalled s = record { reserved = 0; shift = 4; width = 32; sections = s; provided = 16 }
 
 -- a refusal's number and values; nothing where the call is taken
-abbrev formatRefusal : FormatAnswer → List ℕ
-formatRefusal format.Formatted = []
-formatRefusal (format.Refused r) = numberOf r ∷ valuesOf r
-
-abbrev writeRefusal : WriteAnswer → List ℕ
-writeRefusal write.Taken = []
-writeRefusal (write.Refused r) = numberOf r ∷ valuesOf r
+abbrev refusalIn : {A : Type 0} → Answer ℕ A → List ℕ
+refusalIn (taken x) = []
+refusalIn (refused r) = r .number ∷ r .values
 
 abbrev opened : State
 opened = record { layout = bench 16; phase = Filling; count = 0; id = 1 }
@@ -79,12 +73,12 @@ table =
     record { given = tagArea (tagged 7) ∷ tagArea (tagged 8) ∷ []; paper = 8 ∷ 16 ∷ [] } ∷
     -- r 0, T 32, N 16, S 1, P 16: 120 sectors. A volume of 119 is refused 5.
     record {
-      given = needed (bench 16) ∷ formatRefusal (formatOf (tagOf 32) (bench 16) (replicate (119 * 512) 0) .answer);
+      given = needed (bench 16) ∷ refusalIn (formatOf tagOf (bench 16) (replicate (119 * 512) 0) .answer);
       paper = 120 ∷ 5 ∷ 120 ∷ [];
     } ∷
     -- There, sector 5 lies at 109, its tag at byte 49,312. Sector 16 is refused 6.
     record {
-      given = dataAt (bench 16) 5 ∷ tagByte (bench 16) 5 ∷ writeRefusal (writeOf (tagOf 32) opened (emptySection 32) 16 (replicate 512 0) .answer);
+      given = dataAt (bench 16) 5 ∷ tagByte (bench 16) 5 ∷ refusalIn (writeOf tagOf opened (emptySection 32) 16 (replicate 512 0) .answer);
       paper = 109 ∷ 49312 ∷ 6 ∷ [];
     } ∷
     -- P 20: 132 sectors. Sector 17 lies at 129, tag at byte 61,472.
@@ -130,6 +124,10 @@ abbrev toldPlain : {A : Type 0} → Answer ℕ A → List ℤ
 toldPlain (taken x) = pos 0 ∷ []
 toldPlain (refused r) = pos (r .number) ∷ integers (r .values)
 
+-- the answer of a volume's call that is refused so
+abbrev volumeAnswer : Refusal → Answer ℕ (Unit {0})
+volumeAnswer r = refused (refusalOf r)
+
 pub record Told : Type 0 where
   pub given : List ℤ
   pub paper : List ℤ
@@ -138,6 +136,32 @@ abbrev refusals : List Told
 refusals =
     -- digest. 1: the digest's limit is passed; nothing.
     record { given = toldPlain (digest-answers.answerOf digest.TooLong); paper = pos 1 ∷ [] } ∷
+    -- volume, the table's rows in order.
+    -- 1: a loan has a wrong length, or a state isn't sound; nothing.
+    record { given = toldPlain (volumeAnswer volume.Malformed); paper = pos 1 ∷ [] } ∷
+    -- 2: parameter or T out of range; nothing.
+    record { given = toldPlain (volumeAnswer volume.Parameter); paper = pos 2 ∷ [] } ∷
+    -- 3: format: superblock not zero; open: superblock zero; nothing.
+    record { given = toldPlain (volumeAnswer volume.Superblock); paper = pos 3 ∷ [] } ∷
+    -- 4: superblock not valid; nothing.
+    record { given = toldPlain (volumeAnswer volume.Invalid); paper = pos 4 ∷ [] } ∷
+    -- 5: volume shorter than its layout; sectors needed.
+    record { given = toldPlain (volumeAnswer (volume.Short 120)); paper = pos 5 ∷ pos 120 ∷ [] } ∷
+    -- 6: logical sector not below P; nothing for an argument; the entry if staged; section and entry if in a journal.
+    record { given = toldPlain (volumeAnswer volume.Range); paper = pos 6 ∷ [] } ∷
+    record { given = toldPlain (volumeAnswer (volume.StagedRange 7)); paper = pos 6 ∷ pos 7 ∷ [] } ∷
+    record { given = toldPlain (volumeAnswer (volume.JournalRange 2 7)); paper = pos 6 ∷ pos 2 ∷ pos 7 ∷ [] } ∷
+    -- 7: tag doesn't fit; sector, or section and entry.
+    record { given = toldPlain (volumeAnswer (volume.TagMismatch 5)); paper = pos 7 ∷ pos 5 ∷ [] } ∷
+    record { given = toldPlain (volumeAnswer (volume.JournalTagMismatch 2 7)); paper = pos 7 ∷ pos 2 ∷ pos 7 ∷ [] } ∷
+    -- 8: batch full; nothing.
+    record { given = toldPlain (volumeAnswer volume.Full); paper = pos 8 ∷ [] } ∷
+    -- 9: not now; nothing.
+    record { given = toldPlain (volumeAnswer volume.NotNow); paper = pos 9 ∷ [] } ∷
+    -- 10: commit ids used up; nothing.
+    record { given = toldPlain (volumeAnswer volume.Exhausted); paper = pos 10 ∷ [] } ∷
+    -- 11: whole section in the wrong place; section.
+    record { given = toldPlain (volumeAnswer (volume.Misplaced 2)); paper = pos 11 ∷ pos 2 ∷ [] } ∷
     -- tree. 1: a loan has a wrong length; nothing.
     record { given = told (tree-answers.answerOf tree.WrongLength); paper = pos 1 ∷ [] } ∷
     -- tree. 2: parameter out of range; nothing.

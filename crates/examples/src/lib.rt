@@ -14,5 +14,5 @@ pub fn rows() -> usize
 pub fn refusals() -> usize
     ensures { λ r. ⌜ r ≡ refusalCount ⌝ }
 {
-    5
+    19
 }
