@@ -7,7 +7,7 @@ use native.Mathlib.Omega.{arith}
 use lib.Pow.{pow-pos}
 use Rattle.model.specs.Layout.{entrySize, perSector, sectionSize, runLength, tagArea, sectionAt, needed, layoutOk}
 use Rattle.model.specs.declared.Layout.{Layout}
-use Rattle.model.proofs.Addresses.{Sizes, eight, sixteen, thirty-two, Ranged, ranged, section-low, base-room}
+use Rattle.model.proofs.Addresses.{Ranged, ranged, section-low, base-room}
 
 pub per-high : (t : ℕ) → perSector t ≤ 31
 per-high t =
@@ -15,17 +15,12 @@ per-high t =
     let least : 496 / entrySize t * 16 ≤ 496 / entrySize t * entrySize t = mul-le-mul-left (496 / entrySize t) (omega arith) in
     omega arith
 
-sizes-high : {t : ℕ} → Sizes t → t ≤ 32
-sizes-high (eight e) = omega arith
-sizes-high (sixteen e) = omega arith
-sizes-high (thirty-two e) = omega arith
-
 module _ (g : Layout) (ok : layoutOk g ≡ true) where
   R : Ranged g
   R = ranged g ok
 
   pub width-high : g .width ≤ 32
-  width-high = sizes-high (R .t)
+  width-high = R .t .bound
 
   pub reserved-high : g .reserved ≤ 64
   reserved-high = R .r

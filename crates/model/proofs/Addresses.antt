@@ -1,24 +1,21 @@
 -- Regions of a volume: the data sector and the tag of each logical sector lie apart from one another and behind the journal.
-use Prim.Native.Nat.{ℕ, suc, _+_, _-_, _*_, _/_, _%_, _≤_, _<_}
+use Prim.Native.Nat.{ℕ, zero, suc, _+_, _-_, _*_, _/_, _%_, _≤_, _<_}
 use mathlib.Core.Bool.{Bool, true, false, _&&_, _||_}
 use mathlib.Core.Path.{_≡_, refl, sym, ap, _∙_}
 use mathlib.Core.Logic.{_≢_}
 use mathlib.Core.List.{List}
 use native.Mathlib.Omega.{arith}
 use native.Mathlib.Decide.{decLt}
-use native.Mathlib.Nat.{mul-le-mul-right, suc-mul, mod-lt, div-add-mod'}
+use native.Mathlib.Nat.{mul-le-mul-right, mul-assoc, add-mul, suc-mul, mod-lt, div-add-mod'}
 use lib.Pow.{pow-pos}
 use lib.ListN.{length}
 use lib.Dec.{leb, eqb}
 use borrow.Author.Tests.{eqb-true, leb-true}
 use Rattle.octets.specs.Parts.{part, patch}
 use Rattle.octets.proofs.Parts.{part-patch-before, part-patch-after}
-use Rattle.model.specs.Layout.{mostReserved, leastShift, mostShift, mostSections, mostProvided, sectionSize, runLength, tagArea, sectionAt, base, dataAt, tagPlace, tagByte, tagSector, tagOffset, needed, layoutOk, widthOk}
+use Rattle.model.specs.Layout.{mostReserved, leastShift, mostShift, mostSections, mostProvided, sectionSize, runLength, tagArea, sectionAt, base, runAt, dataAt, tagPlace, tagByte, tagSector, tagOffset, needed, layoutOk, widthOk}
 use Rattle.model.specs.declared.Layout.{Layout}
-
-pub data Apart (a n b m : ℕ) : Type 0 where
-  before : a + n ≤ b → Apart a n b m
-  behind : b + m ≤ a → Apart a n b m
+use Rattle.model.specs.Geometry.{Apart, before, behind}
 
 pub part-apart : (l : List ℕ) (at : ℕ) (s : List ℕ) (b m : ℕ) → at + length s ≤ length l → Apart b m at (length s) → part (patch l at s) b m ≡ part l b m
 part-apart l at s b m f (before h) = part-patch-before l at s f b m h
@@ -28,15 +25,12 @@ pub and-both : (a b : Bool) → _&&_ a b ≡ true → (a ≡ true) × (b ≡ tru
 and-both true b e = (refl, e)
 and-both false b e = absurd (let z : _≡_ {A = ℕ} 0 1 = cc in omega arith)
 
-pub data Sizes (t : ℕ) : Type 0 where
-  eight : t ≡ 8 → Sizes t
-  sixteen : t ≡ 16 → Sizes t
-  thirty-two : t ≡ 32 → Sizes t
-
-pub size-bound : {t : ℕ} → Sizes t → t ≤ 32
-size-bound (eight e) = omega arith
-size-bound (sixteen e) = omega arith
-size-bound (thirty-two e) = omega arith
+-- what is used of a tag's size: it divides a sector
+pub record Sizes (t : ℕ) : Type 0 where
+  pub some : 1 ≤ t
+  pub bound : t ≤ 32
+  pub times : ℕ
+  pub divides : times * t ≡ 512
 
 pub record Ranged (g : Layout) : Type 0 where
   pub r : g .reserved ≤ mostReserved
@@ -52,10 +46,13 @@ sizes : (t : ℕ) → widthOk t ≡ true → Sizes t
 unfolding widthOk
 sizes t = go (eqb t 8) (eqb t 16) refl refl
   where
+    of : (n k : ℕ) → 1 ≤ n → n ≤ 32 → k * n ≡ 512 → t ≡ n → Sizes t
+    of n k l h e q = record { some = omega arith; bound = omega arith; times = k; divides = ap (λ (x : ℕ). k * x) q ∙ e }
+
     go : (a b : Bool) → eqb t 8 ≡ a → eqb t 16 ≡ b → a || b || eqb t 32 ≡ true → Sizes t
-    go true b p q e = eight (eqb-true t 8 p)
-    go false true p q e = sixteen (eqb-true t 16 q)
-    go false false p q e = thirty-two (eqb-true t 32 e)
+    go true b p q e = of 8 64 (omega arith) (omega arith) refl (eqb-true t 8 p)
+    go false true p q e = of 16 32 (omega arith) (omega arith) refl (eqb-true t 16 q)
+    go false false p q e = of 32 16 (omega arith) (omega arith) refl (eqb-true t 32 e)
 
 pub ranged : (g : Layout) → layoutOk g ≡ true → Ranged g
 unfolding layoutOk
@@ -112,6 +109,15 @@ module _ (g : Layout) (R : Ranged g) where
       go (yes l) d = lower l (run-order (s / runLength g) (s′ / runLength g) l)
       go (no k) (yes l) = upper l (run-order (s′ / runLength g) (s / runLength g) l)
       go (no k) (no l) = alike (omega arith)
+
+  -- a tag area and a data sector
+  pub area-data : (s s′ : ℕ) → Apart (runAt g s) (tagArea g) (dataAt g s′) 1
+  area-data s s′ = go (runs s s′) (within s′)
+    where
+      go : Runs s s′ → s′ % runLength g < runLength g → Apart (runAt g s) (tagArea g) (dataAt g s′) 1
+      go (lower q l) w = before (omega arith)
+      go (upper q l) w = behind (omega arith)
+      go (alike e) w = before (rw e (omega arith))
 
   -- a data sector and a tag
   pub data-tag : (s s′ : ℕ) → Apart (dataAt g s * 512) 512 (tagByte g s′) (g .width)
@@ -173,13 +179,30 @@ module _ (g : Layout) (R : Ranged g) where
   pub tag-sector : (s : ℕ) → tagSector g s * 512 + tagOffset g s ≡ tagByte g s
   tag-sector s = omega arith
 
+  -- the size of a tag divides a sector's, so that no tag crosses into the next
   pub tag-inside : (s : ℕ) → tagOffset g s + g .width ≤ 512
-  tag-inside s = go (R .t)
+  tag-inside s = whole (s % runLength g)
     where
-      go : Sizes (g .width) → tagOffset g s + g .width ≤ 512
-      go (eight e) = rw e (omega arith)
-      go (sixteen e) = rw e (omega arith)
-      go (thirty-two e) = rw e (omega arith)
+      k : ℕ
+      k = R .t .times
+
+      some-times : 0 < k
+      some-times = go k (R .t .divides)
+        where
+          go : (n : ℕ) → n * g .width ≡ 512 → 0 < n
+          go zero e = absurd (omega (arith, e))
+          go (suc n) e = omega arith
+
+      whole : (i : ℕ) → i * g .width % 512 + g .width ≤ 512
+      whole i =
+          let rest : i % k < k = mod-lt i some-times in
+          let last : suc (i % k) * g .width ≤ k * g .width = mul-le-mul-right (g .width) rest in
+          let next : suc (i % k) * g .width ≡ i % k * g .width + g .width = suc-mul (i % k) (g .width) in
+          let split : i / k * k + i % k ≡ i = div-add-mod' i k in
+          let product : (i / k * k + i % k) * g .width ≡ i / k * k * g .width + i % k * g .width = add-mul (i / k * k) (i % k) (g .width) in
+          let sectors : i / k * k * g .width ≡ i / k * 512 = mul-assoc (i / k) k (g .width) ∙ ap (λ (x : ℕ). i / k * x) (R .t .divides) in
+          let all : i * g .width ≡ i / k * 512 + i % k * g .width = ap (λ (x : ℕ). x * g .width) (sym split) ∙ product ∙ ap (λ (x : ℕ). x + i % k * g .width) sectors in
+          omega (arith, R .t .divides, R .t .some)
 
   pub data-high : (s : ℕ) → base g ≤ dataAt g s
   data-high s = omega arith
@@ -209,17 +232,14 @@ module _ (g : Layout) (R : Ranged g) where
           let c : z / runLength g * runLength g + s % runLength g ≡ s = rw e at a in
           rw e (omega arith)
 
+  pub area-room : (s : ℕ) → s < g .provided → runAt g s + tagArea g ≤ needed g
+  area-room s l = omega (arith, data-room s l)
+
   pub tag-room : (s : ℕ) → s < g .provided → tagSector g s + 1 ≤ needed g
   tag-room s l =
       let d : dataAt g s + 1 ≤ needed g = data-room s l in
       let a = tag-in-area s in
-      let p : 1 ≤ g .width = size-pos (R .t) in
-      omega arith
-    where
-      size-pos : Sizes (g .width) → 1 ≤ g .width
-      size-pos (eight e) = rw e (omega arith)
-      size-pos (sixteen e) = rw e (omega arith)
-      size-pos (thirty-two e) = rw e (omega arith)
+      omega (arith, R .t .some)
 
   section-order : (k k′ : ℕ) → k < k′ → sectionAt g k + sectionSize (g .width) ≤ sectionAt g k′
   section-order k k′ l =

@@ -13,6 +13,7 @@ use Rattle.octets.specs.Parts.{part, same}
 use Rattle.octets.specs.Sectors.{sectorAt}
 use Rattle.octets.proofs.Parts.{part-part, same-true, eq-same}
 use Rattle.octets.proofs.Sectors.{sector-part}
+use Rattle.model.specs.Geometry.{Apart, before, behind}
 use Rattle.model.specs.Layout.{sectionSize, sectionAt, base, dataAt, tagSector, tagOffset}
 use Rattle.model.specs.Section.{idOf, allBelow}
 use Rattle.model.specs.Journal.{sealed, sectionOf, greatestId, replay}
@@ -21,7 +22,7 @@ use Rattle.model.specs.Ledger.{Contents, Ledger, entered}
 use Rattle.model.specs.World.{Live}
 use Rattle.model.proofs.Replays.{mentions, Clean, Pass, Which, isTrue, isFalse, which}
 use Rattle.model.proofs.Journals.{top-section, id-sealed, top-ge, writes, batchOf, below-all}
-use Rattle.model.proofs.Addresses.{Apart, before, behind, tag-sector, tag-inside, data-high, tag-high, section-apart, section-low}
+use Rattle.model.proofs.Addresses.{tag-sector, tag-inside, data-high, tag-high, section-apart, section-low}
 use Rattle.model.proofs.Volumes.{sectors-ext, volume-ext, getD-sector}
 use Rattle.model.specs.Guarantees.{Outside}
 use Rattle.model.proofs.Homes.{Home}

@@ -34,7 +34,7 @@ use Rattle.model.proofs.Formats.{Fresh, format-layout, format-fresh}
 use Rattle.model.proofs.Replays.{lastFor-append}
 use Rattle.model.proofs.Sections.{per-pos}
 use Rattle.model.proofs.Journals.{due-le, top-least, writeOfEntry, batchOf, top-le, whole-le}
-use Rattle.model.proofs.Addresses.{size-bound, and-both, ranged, section-low}
+use Rattle.model.proofs.Addresses.{and-both, ranged, section-low}
 use Rattle.model.proofs.Homes.{Home}
 use Rattle.model.proofs.Invariant.{Setting, low-kept, stateAt, Disk, AtFilling, Lives, stopped}
 use Rattle.model.proofs.Cuts.{and-false, cuts}
@@ -68,7 +68,7 @@ module _ (tag : Tag) (g : Layout) (sz : (s : ℕ) (b : List ℕ) → length (tag
       record {
         layout = F .layout;
         ranged = ranged g (F .layout);
-        some = per-pos (g .width) (omega (arith, size-bound (ranged g (F .layout) .t)));
+        some = per-pos (g .width) (omega (arith, ranged g (F .layout) .t .bound));
         tags = sz;
         loan = F .wholes;
         room = F .room;
@@ -254,7 +254,7 @@ tag-length : (t : ℕ) → t ≤ 32 → (s : ℕ) (b : List ℕ) → length (tag
 tag-length t h s b = length-take-le t (sha256 (le 8 s ++ b)) (rw (length-sha256 (le 8 s ++ b)) h)
 
 pub formatted-length : (g : Layout) (v : List ℕ) → formatOf tagOf g v .answer ≡ passed → (s : ℕ) (b : List ℕ) → length (tagOf (g .width) s b) ≡ g .width
-formatted-length g v e = tag-length (g .width) (size-bound (ranged g (format-layout tagOf g v e) .t))
+formatted-length g v e = tag-length (g .width) (ranged g (format-layout tagOf g v e) .t .bound)
 
 pub demand3-sha256 : Demand3Sha256
 demand3-sha256 g v e = demand3 tagOf g (formatted-length g v e) v e

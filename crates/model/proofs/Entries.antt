@@ -16,7 +16,7 @@ use Rattle.model.specs.Section.{unused, entryOf, collect}
 use Rattle.model.specs.Journal.{Replayed, usedEntry, usedOf, sectionOf, replay}
 use Rattle.model.specs.Store.{homeCount, Place, storeOf, placesOf, plan, storesOf}
 use Rattle.model.specs.Step.{noPlace}
-use Rattle.model.proofs.Addresses.{size-bound, Ranged, section-low, base-room}
+use Rattle.model.proofs.Addresses.{Ranged, section-low, base-room}
 use Rattle.model.proofs.Sections.{bytes-length, tag-length}
 use Rattle.model.proofs.Journals.{Every, every-append, every-replay}
 use Rattle.model.proofs.Plans.{length-places, get-places}
@@ -40,7 +40,7 @@ module _ (g : Layout) (R : Ranged g) (v : List ℕ) (room : needed g * 512 ≤ l
 
       one : (i : ℕ) → i < entryCount t → (b : Bool) → Every (Complete g) (pick b [] (record { section = k; place = i; entry = entryOf t sec i } ∷ []))
       one i m true = tt
-      one i m false = (record { whole = bytes-length t i (size-bound (R .t)) m sec size; sized = tag-length t i (size-bound (R .t)) m sec size }, tt)
+      one i m false = (record { whole = bytes-length t i (R .t .bound) m sec size; sized = tag-length t i (R .t .bound) m sec size }, tt)
 
       all : (m : ℕ) → m ≤ entryCount t → Every (Complete g) (collect m (λ i. usedEntry k i (entryOf t sec i)))
       all zero h = tt

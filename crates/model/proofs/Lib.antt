@@ -1,5 +1,6 @@
 -- The laws, and the proof of demand 3.
 pub mod Addresses
+pub mod Geometry
 pub mod Volumes
 pub mod Sections
 pub mod Order
@@ -25,3 +26,5 @@ pub mod ReadBack
 pub mod FirstRule
 pub mod NextStore
 pub mod Refusals
+pub mod Reserved
+pub mod CommitStores

@@ -28,7 +28,7 @@ use Rattle.model.specs.Ledger.{Ledger, Noted, stepped, start, note, note
 use Rattle.model.specs.World.{Event, aStep, aRead, Live, off, on, World, Medium, begin, unmoved, stepWorld, play, tell, next, noted, after, transcript}
 use Rattle.model.specs.Demand3.{Agrees}
 use Rattle.model.specs.NextStore.{nextStoreOf, storeNamed, Placed, Within, sectorNamed, sectorStored, StepStores, OwnerEvent, plain, aNextStore, ownerWorld, ownerStep, ownerTaken, ownerNext, ownerNoted, ownerAfter, ownerTranscript, Demand3Owner, Demand3OwnerSha256}
-use Rattle.model.proofs.Addresses.{and-both, size-bound, Ranged, ranged, data-high, tag-high, data-room, tag-room, tag-inside, section-low, base-room}
+use Rattle.model.proofs.Addresses.{and-both, Ranged, ranged, data-high, tag-high, data-room, tag-room, tag-inside, section-low, base-room}
 use Rattle.model.proofs.Sections.{bytes-length, tag-length}
 use Rattle.model.proofs.Journals.{length-sealed}
 use Rattle.model.proofs.Replays.{Which, isTrue, isFalse, which}
@@ -122,7 +122,7 @@ module _ (s : State) (v st : List ℕ) where
         by-row (leb (g .provided) (stagedEntry s st i .sector)) (refusal 6 (i ∷ []))
         (λ n. at-phase (WritingBack i h) q
         (bringing (stagedEntry s st i) (leb-false (g .provided) (stagedEntry s st i .sector) n)
-        (bytes-length (g .width) i (size-bound (R .t)) i-low st staged) (tag-length (g .width) i (size-bound (R .t)) i-low st staged) h _ _ _))
+        (bytes-length (g .width) i (R .t .bound) i-low st staged) (tag-length (g .width) i (R .t .bound) i-low st staged) h _ _ _))
 
     recovering : (k : ℕ) → s .phase ≡ Recovering k → (p : Place) → placeAt g v k ≡ p → PlaceOf g (Complete g) p → Stores (stepBy s v st (firstMet (placeRow g p ∷ []) passed))
     recovering k q (storeOf x h) e c =

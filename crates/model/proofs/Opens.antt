@@ -27,7 +27,7 @@ use Rattle.model.specs.Ledger.{Ledger, opened as openedNote, note}
 use Rattle.model.specs.World.{openWorld}
 use Rattle.model.proofs.Replays.{Which, isTrue, isFalse, which, pass-replays}
 use Rattle.model.proofs.Journals.{Every, writes, all-below}
-use Rattle.model.proofs.Addresses.{size-bound, Ranged, base-room}
+use Rattle.model.proofs.Addresses.{Ranged, base-room}
 use Rattle.model.proofs.Plans.{At, here, at-in, home-two}
 use Rattle.model.proofs.Invariant.{Setting, low-kept, replay-goods, Good, Disk, stopped, filling, recovering}
 use Rattle.model.proofs.Steps.{Inv, never, staged-empty}
@@ -37,7 +37,7 @@ use Rattle.model.specs.declared.Layout.{Layout}
 
 module _ (g : Layout) (R : Ranged g) where
   small : g .width < 256 ^ 2
-  small = omega (arith, size-bound (R .t))
+  small = omega (arith, R .t .bound)
 
   pub super-decoded : layoutIn (g .reserved) (superblockOf g) ≡ g
   unfolding superblockOf

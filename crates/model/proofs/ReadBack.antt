@@ -15,7 +15,7 @@ use Rattle.model.specs.Layout.{perSector, entryCount, sectionSize}
 use Rattle.model.specs.Section.{Entry, unused, idOf, entryOf, putEntry, wholeId, collect, emptySection}
 use Rattle.model.specs.Journal.{sealed, usedEntry, usedOf}
 use Rattle.model.specs.ReadBack.{Sized, AllSized, putBatch, sealedSection, numbered, ReadBack}
-use Rattle.model.proofs.Addresses.{size-bound, ranged}
+use Rattle.model.proofs.Addresses.{ranged}
 use Rattle.model.proofs.Sections.{per-pos, length-putEntry, entryOf-put-same, entryOf-put-other, part-collect, length-empty, empty-unused}
 use Rattle.model.proofs.Journals.{whole-all, length-sealed, id-sealed, entry-sealed}
 
@@ -140,4 +140,4 @@ module _ (g : Layout) (pos : 0 < perSector (g .width)) (es : List Entry) (l : le
   read k = (whole, used k)
 
 pub read-back : ReadBack
-read-back g ok es l q k n z n64 = read g (per-pos (g .width) (omega (arith, size-bound (ranged g ok .t)))) es l q n n64 k
+read-back g ok es l q k n z n64 = read g (per-pos (g .width) (omega (arith, ranged g ok .t .bound))) es l q n n64 k

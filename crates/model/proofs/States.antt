@@ -71,6 +71,18 @@ state-committing s e j q =
     let b = and-both (ltb 0 (s .count)) _ (a .1) in
     (ltb-true j (sectionSize (s .layout .width)) (a .0), ltb-true (s .id) lastId (b .1))
 
+-- the place of a commit moves on
+pub state-commits : (s : State) → stateOk s ≡ true → (i : ℕ) → s .phase ≡ Committing i → (j : ℕ) → j < sectionSize (s .layout .width)
+    → stateOk (record { layout = s .layout; phase = Committing j; count = s .count; id = s .id }) ≡ true
+unfolding stateOk
+state-commits s e i q j l =
+    let a = and-both (layoutOk (s .layout)) _ e in
+    let b = and-both (leb (s .count) (entryCount (s .layout .width))) _ (a .1) in
+    let c = place-of s e in
+    let p : placeOk (s .layout) (s .count) (s .id) (Committing i) ≡ true = ap (placeOk (s .layout) (s .count) (s .id)) (sym q) ∙ c .1 in
+    let d = and-both (ltb i (sectionSize (s .layout .width))) _ p in
+    rw (a .0, b .0, c .0, lt-ltb j (sectionSize (s .layout .width)) l, d .1)
+
 pub state-writing-back : (s : State) → stateOk s ≡ true → (i h : ℕ) → s .phase ≡ WritingBack i h → (i < s .count) × (i < entryCount (s .layout .width)) × (h < 2)
 state-writing-back s e i h q =
     let p : placeOk (s .layout) (s .count) (s .id) (WritingBack i h) ≡ true = ap (placeOk (s .layout) (s .count) (s .id)) (sym q) ∙ place-of s e .1 in

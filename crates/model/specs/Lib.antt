@@ -1,6 +1,7 @@
 -- The specification of the volume, in the order of document 01.
 pub mod Refusal
 pub mod Layout
+pub mod Geometry
 pub mod Superblock
 pub mod Section
 pub mod Journal
@@ -22,3 +23,4 @@ pub mod Guarantees
 pub mod ReadBack
 pub mod FirstRule
 pub mod NextStore
+pub mod Reserved
