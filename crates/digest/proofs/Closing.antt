@@ -9,7 +9,7 @@ use native.Mathlib.Decide.{decLe}
 use lib.ListN.{length, getD, take, set, replicate, length-append}
 use lib.Seq.{take-suc}
 use borrow.Author.Tests.{le-ltb, lt-ltb}
-use Rattle.octets.specs.Answer.{Answer, taken, numberIn, refuse}
+use Rattle.octets.specs.Answer.{taken, numberIn}
 use Rattle.octets.specs.Numbers.{be}
 use Rattle.octets.specs.Parts.{part, patch}
 use Rattle.octets.proofs.Numbers.{length-be}

@@ -1,8 +1,6 @@
 -- The geometry of a layout in range, from the laws of its regions.
-use Prim.Native.Nat.{ℕ, _+_, _*_}
-use mathlib.Core.Logic.{_≢_}
+use Prim.Native.Nat.{ℕ, _*_}
 use native.Mathlib.Omega.{arith}
-use Rattle.model.specs.declared.Layout.{Layout}
 use Rattle.model.specs.Layout.{sectionSize, sectionAt, dataAt}
 use Rattle.model.specs.Geometry.{Apart, before, behind, Geometric}
 use Rattle.model.proofs.Addresses.{ranged, tag-in-area, area-data, data-data, tag-tag, tag-sector, tag-inside, data-high, data-room, area-room, section-low, section-apart}

@@ -28,3 +28,4 @@ pub mod NextStore
 pub mod Refusals
 pub mod Reserved
 pub mod CommitStores
+pub mod Clients

@@ -1,6 +1,6 @@
 -- The store of a step, told and made: specs/NextStore.
 use Prim.Native.Nat.{ℕ, zero, suc, _+_, _*_, _≤_, _<_}
-use mathlib.Core.Bool.{Bool, true, false, not, _&&_}
+use mathlib.Core.Bool.{Bool, true, false, _&&_}
 use mathlib.Core.List.{List, [], _∷_}
 use mathlib.Core.Path.{_≡_, refl, sym, ap, _∙_, subst}
 use native.Mathlib.Nat.{mod-lt}
@@ -8,7 +8,7 @@ use native.Mathlib.Omega.{arith}
 use lib.Dec.{leb, ltb}
 use lib.ListN.{length}
 use borrow.Author.Tests.{leb-false}
-use Rattle.octets.specs.Answer.{Refusal, taken, refused, refusal, refuse, isTaken}
+use Rattle.octets.specs.Answer.{Refusal, refused, refusal, refuse, isTaken}
 use Rattle.octets.specs.Choice.{pick, firstMet}
 use Rattle.octets.specs.Sectors.{sectorAt}
 use Rattle.octets.proofs.Parts.{length-part, length-patch}
@@ -16,16 +16,16 @@ use Rattle.model.specs.declared.Layout.{Layout}
 use Rattle.model.specs.declared.Phase.{Phase}
 use Rattle.model.specs.declared.Phase.the-variants.{Filling, Committing, WritingBack, Recovering}
 use Rattle.model.specs.declared.State.{State}
-use Rattle.model.specs.Layout.{sectionSize, tagSector, tagOffset, needed, layoutOk}
+use Rattle.model.specs.Layout.{sectionSize, tagSector, tagOffset, needed}
 use Rattle.model.specs.Section.{Entry}
 use Rattle.model.specs.Journal.{sectionFor, replay}
 use Rattle.model.specs.Tag.{Tags, tagOf}
-use Rattle.model.specs.Store.{one, afterEffect, contentOf, homeStore, Place, storeOf}
+use Rattle.model.specs.Store.{afterEffect, contentOf, homeStore, Place, storeOf}
 use Rattle.model.specs.State.{passed, stateOk, volumeOk, stagingOk, sectorOk}
 use Rattle.model.specs.Format.{formatOf}
 use Rattle.model.specs.Step.{StepResult, placeAt, placeRow, rangeRows, stagedEntry, commitStore, commitStep, homeStep, recoverPlace, phaseStep, stepBy, stepOf}
-use Rattle.model.specs.Ledger.{Ledger, Noted, stepped, start, note, noteAll}
-use Rattle.model.specs.World.{Event, aStep, aRead, Live, off, on, World, Medium, begin, unmoved, stepWorld, play, tell, next, noted, after, transcript}
+use Rattle.model.specs.Ledger.{Ledger, stepped, start, note, noteAll}
+use Rattle.model.specs.World.{Event, aStep, aRead, Live, off, on, World, Medium, begin, stepWorld, play, tell, next, noted, after, transcript}
 use Rattle.model.specs.Demand3.{Agrees}
 use Rattle.model.specs.NextStore.{nextStoreOf, storeNamed, Placed, Within, sectorNamed, sectorStored, StepStores, OwnerEvent, plain, aNextStore, ownerWorld, ownerStep, ownerTaken, ownerNext, ownerNoted, ownerAfter, ownerTranscript, Demand3Owner, Demand3OwnerSha256}
 use Rattle.model.proofs.Addresses.{and-both, Ranged, ranged, data-high, tag-high, data-room, tag-room, tag-inside, section-low, base-room}

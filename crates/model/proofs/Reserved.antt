@@ -2,30 +2,30 @@
 use Prim.Native.Nat.{ℕ, zero, suc, _+_, _-_, _*_, _%_, _≤_}
 use mathlib.Core.Bool.{Bool, not, _&&_}
 use mathlib.Core.List.{List, _∷_, [], _++_}
-use mathlib.Core.Path.{_≡_, refl, sym, ap, _∙_, subst}
+use mathlib.Core.Path.{_≡_, refl, sym, ap, _∙_}
 use native.Mathlib.Omega.{arith}
 use lib.Dec.{leb, eqb}
 use lib.ListN.{length, take, drop}
 use lib.Seq.{drop-drop}
 use Rattle.octets.specs.Answer.{taken, refused, refuse}
-use Rattle.octets.specs.Choice.{pick, firstMet}
-use Rattle.octets.specs.Parts.{part, patch, same}
+use Rattle.octets.specs.Choice.{firstMet}
+use Rattle.octets.specs.Parts.{part, patch}
 use Rattle.octets.specs.Sectors.{sectorAt}
 use Rattle.model.specs.declared.Layout.{Layout}
 use Rattle.model.specs.declared.Phase.{Phase}
 use Rattle.model.specs.declared.Phase.the-variants.{Filling, Committing, WritingBack, Recovering}
 use Rattle.model.specs.declared.State.{State}
-use Rattle.model.specs.Layout.{mostSectors, sectionSize, sectionAt, dataAt, tagByte, tagSector, tagOffset, needed}
+use Rattle.model.specs.Layout.{mostSectors, sectionSize, sectionAt, dataAt, tagByte, tagSector, tagOffset}
 use Rattle.model.specs.Superblock.{superblockAt, layoutIn}
 use Rattle.model.specs.Section.{Entry, wholeId, allBelow}
 use Rattle.model.specs.Journal.{sectionOf, greatestId, sectionFor, wholeIds, replay}
 use Rattle.model.specs.Tag.{Tags, tagAt}
-use Rattle.model.specs.Store.{Store, homeStore, Place, storeOf}
-use Rattle.model.specs.State.{Verdict, passed, volumeLoanOk, replayOk, volumeOk, stateOk, stagingOk, sectorOk, lastId}
+use Rattle.model.specs.Store.{homeStore, Place, storeOf}
+use Rattle.model.specs.State.{Verdict, passed, volumeLoanOk, replayOk, volumeOk, stagingOk, sectorOk, lastId}
 use Rattle.model.specs.Format.{formatRows, formatBy, formatOf}
-use Rattle.model.specs.Open.{misplaced, firstBelow, openRows, superblockRows, OpenResult, entriesVerdict, openBy, openWith, openOf}
+use Rattle.model.specs.Open.{misplaced, firstBelow, openRows, superblockRows, entriesVerdict, openBy, openWith, openOf}
 use Rattle.model.specs.Query.{queryWith, queryOf}
-use Rattle.model.specs.Step.{StepResult, placeAt, placeRow, rangeRows, stepRows, commitStep, homeStep, recoverPlace, phaseStep, stepBy, stepOf}
+use Rattle.model.specs.Step.{placeAt, rangeRows, stepRows, commitStep, homeStep, recoverPlace, phaseStep, stepBy, stepOf}
 use Rattle.model.specs.Read.{readRows, readBy, readOf}
 use Rattle.model.specs.NextStore.{nextStoreOf}
 use Rattle.model.specs.Reserved.{AgreeFrom, ReservedUnread}

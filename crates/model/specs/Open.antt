@@ -6,7 +6,7 @@
 -- openRows g r v st      : the rules up to 11
 -- entriesVerdict ..      : the rules 6 and 7, entry by entry
 -- openOf tags r v st     : the call: its answer and the staging loan afterwards
-use Prim.Native.Nat.{ℕ, zero, suc, _+_, _-_, _*_}
+use Prim.Native.Nat.{ℕ, zero, suc, _+_, _*_}
 use mathlib.Core.Bool.{Bool, not, _&&_}
 use mathlib.Core.List.{List, [], _∷_, _++_}
 use lib.ListN.{length}

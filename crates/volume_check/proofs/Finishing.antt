@@ -20,7 +20,7 @@ use Rattle.model.specs.declared.Layout.{Layout}
 use Rattle.model.specs.declared.Phase.{Phase}
 use Rattle.model.specs.declared.Phase.the-variants.{Filling, Recovering}
 use Rattle.model.specs.declared.State.{State}
-use Rattle.model.specs.Layout.{entryCount, sectionSize, sectionAt, dataAt, needed, layoutOk}
+use Rattle.model.specs.Layout.{entryCount, sectionSize, dataAt, needed, layoutOk}
 use Rattle.model.specs.Section.{emptySection}
 use Rattle.model.specs.Journal.{greatestId, sectionOf, Replayed, replay}
 use Rattle.model.specs.Superblock.{superblockAt, layoutIn}

@@ -13,8 +13,7 @@ use Rattle.model.specs.declared.Layout.{Layout}
 use Rattle.model.specs.declared.Phase.the-variants.{Filling}
 use Rattle.model.specs.declared.State.{State}
 use Rattle.model.specs.Layout.{sectionSize}
-use Rattle.model.specs.Section.{collect, emptySection}
-use Rattle.model.specs.Superblock.{superblockAt, layoutIn}
+use Rattle.model.specs.Section.{emptySection}
 use Rattle.model.specs.Tag.{tagOf}
 use Rattle.model.specs.State.{passed}
 use Rattle.model.specs.Format.{formatOf}
@@ -22,10 +21,9 @@ use Rattle.model.specs.Open.{OpenResult, openOf}
 use Rattle.model.specs.Query.{queryOf}
 use Rattle.model.specs.Read.{ReadResult, readOf}
 use Rattle.model.specs.Advance.{advanceFrom}
-use Rattle.model.specs.World.{anOpen, begin, openWorld, after}
+use Rattle.model.specs.World.{anOpen, openWorld, after}
 use Rattle.model.specs.Guarantees.{OpensFresh}
 use Rattle.model.proofs.Demand3.{demand3-sha256, formatted-length, fresh-opens}
-use Rattle.model.proofs.Guarantees.{guaranteed-sha256}
 use Rattle.volume_check.specs.Check.{recoverFrom, recoverOf, isBad, countOf}
 use Rattle.volume_report.specs.Report.{mostSectors, decimal, layoutLine, lineOf, badLine, badLines, checkText, reportFrom, reportHeld, reportOf, FreshReports, example, FreshPrints}
 

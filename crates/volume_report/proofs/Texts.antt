@@ -14,7 +14,7 @@ use Rattle.octets.proofs.Parts.{patch-join}
 use Rattle.model.specs.Section.{collect}
 use Rattle.model.specs.declared.Layout.{Layout}
 use Rattle.volume_check.specs.Check.{flagsOf, countOf}
-use Rattle.volume_report.specs.Report.{decimal, lineOf, layoutLine, flagged, badLine, badLines, checkedText, checkText, Puts}
+use Rattle.volume_report.specs.Report.{lineOf, layoutLine, flagged, badLine, badLines, checkedText, checkText, Puts}
 use Rattle.volume_check.proofs.Checks.{get-flags}
 
 -- no text

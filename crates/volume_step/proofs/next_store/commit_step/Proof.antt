@@ -1,4 +1,3 @@
-use native.Mathlib.Omega.{arith}
 use Rattle.layout.proofs.Sizes.{width-high}
 use Rattle.volume_step.proofs.Steps.{goes-on, ends}
 use borrow.Author.Needs.{needs}

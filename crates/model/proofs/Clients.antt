@@ -1,0 +1,137 @@
+-- Uses of the top statements, each at an instance that only the whole statement gives: so that a statement which is made weaker, and is then still
+-- proved, is refused here.
+use Prim.Native.Nat.{ℕ, _+_, _-_, _*_, _^_, _≤_, _<_}
+use mathlib.Core.Bool.{true}
+use mathlib.Core.Logic.{_≢_}
+use mathlib.Core.List.{List, [], _∷_, _++_}
+use mathlib.Core.Path.{_≡_, sym, ap, _∙_}
+use native.Mathlib.Omega.{arith}
+use lib.Dec.{eqb}
+use lib.ListN.{length, getD, drop, replicate, length-append, length-replicate}
+use Rattle.octets.specs.Answer.{taken, isTaken}
+use Rattle.octets.specs.Sectors.{sectorAt}
+use Rattle.model.specs.declared.Layout.{Layout}
+use Rattle.model.specs.declared.State.{State}
+use Rattle.model.specs.Layout.{sectionSize, sectionAt, base, dataAt, tagByte, needed, layoutOk}
+use Rattle.model.specs.Geometry.{Apart}
+use Rattle.model.specs.Section.{Entry, wholeId, emptySection}
+use Rattle.model.specs.Journal.{usedOf}
+use Rattle.model.specs.Tag.{Tags, tagAt}
+use Rattle.model.specs.State.{passed}
+use Rattle.model.specs.Format.{formatOf}
+use Rattle.model.specs.Open.{openOf}
+use Rattle.model.specs.Step.{stepOf}
+use Rattle.model.specs.Read.{readOf}
+use Rattle.model.specs.Ledger.{Ledger, lastFor, entersNext}
+use Rattle.model.specs.World.{Event, anOpen, aStep, off, on, World, volumeIn, stepAcknowledges, after}
+use Rattle.model.specs.Guarantees.{worldOf, toldOf, Outside}
+use Rattle.model.specs.ReadBack.{AllSized, putBatch, sealedSection, numbered}
+use Rattle.octets.proofs.Parts.{drop-past}
+use Rattle.model.proofs.Addresses.{ranged}
+use Rattle.model.proofs.Sections.{per-pos}
+use Rattle.model.proofs.Demand3.{demand3}
+use Rattle.model.proofs.Guarantees.{guaranteed}
+use Rattle.model.proofs.Geometry.{geometric}
+use Rattle.model.proofs.ReadBack.{read-back}
+use Rattle.model.proofs.Reserved.{reserved-unread}
+
+-- ---- demand 3 and what holds beside it: any tag functions, layout and volume, and a list of events that ends in any way
+
+module _ (tags : Tags) (g : Layout) (sized : (s : ℕ) (b : List ℕ) → length (tags (g .width) s b) ≡ g .width) (v : List ℕ)
+    (formatted : formatOf tags g v .answer ≡ passed) (es : List Event) where
+  abbrev world : World
+  world = worldOf tags g v es
+
+  abbrev told : Ledger
+  told = toldOf tags g v es
+
+  abbrev volume : List ℕ
+  volume = volumeIn (world .medium)
+
+  abbrev fresh : List ℕ
+  fresh = formatOf tags g v .volume
+
+  module _ (settled : world .settled ≡ true) where
+    -- the last sector, its tag, and a read of it into a loan of any bytes
+    last-home : 0 < g .provided → sectorAt volume (dataAt g (g .provided - 1)) ≡ told .contents (g .provided - 1)
+    last-home p = demand3 tags g sized v formatted es settled .home (g .provided - 1) (omega arith)
+
+    last-fits : 0 < g .provided → tagAt g volume (g .provided - 1) ≡ tags (g .width) (g .provided - 1) (told .contents (g .provided - 1))
+    last-fits p = demand3 tags g sized v formatted es settled .fits (g .provided - 1) (omega arith)
+
+    last-read : 0 < g .provided → (s : State) (st loan : List ℕ) → world .live ≡ on s st → length loan ≡ 512
+        → readOf tags s volume st (g .provided - 1) loan
+        ≡ record { answer = taken tt; sector = lastFor (told .batch) (g .provided - 1) (told .contents (g .provided - 1)) }
+    last-read p s st loan e l = demand3 tags g sized v formatted es settled .reads s st loan (g .provided - 1) e l (omega arith)
+
+    -- the first reserved sector, and the superblock's last
+    first-kept : sectorAt volume 0 ≡ sectorAt fresh 0
+    first-kept = demand3 tags g sized v formatted es settled .kept 0 (omega arith)
+
+    superblock-kept : sectorAt volume (g .reserved + 7) ≡ sectorAt fresh (g .reserved + 7)
+    superblock-kept = demand3 tags g sized v formatted es settled .kept (g .reserved + 7) (omega arith)
+
+  -- an open with any bytes in staging
+  any-opens : (b : ℕ) → world .live ≡ off → (st : List ℕ) → length st ≡ sectionSize (g .width) * 512
+      → isTaken (openOf tags (g .reserved) volume st .answer) ≡ true
+  any-opens b e st l = guaranteed tags g sized v formatted es .opens st e l
+
+  any-steps : (s : State) (st : List ℕ) → world .live ≡ on s st → isTaken (stepOf s volume st .answer) ≡ true
+  any-steps s st e = guaranteed tags g sized v formatted es .steps s st e
+
+  any-acknowledges : (s : State) (st : List ℕ) → world .live ≡ on s st → stepAcknowledges (stepOf s volume st .answer) ≡ entersNext told
+  any-acknowledges s st e = guaranteed tags g sized v formatted es .acknowledged s st e
+
+  -- open's number exactly: settled after n steps, and not after n − 1
+  counts-all : (st : List ℕ) (s : State) (n : ℕ) → world .live ≡ off → openOf tags (g .reserved) volume st .answer ≡ taken (s, n)
+      → after tags (g .reserved) world (anOpen st ∷ replicate n aStep) .settled ≡ eqb n n
+  counts-all st s n e o = guaranteed tags g sized v formatted es .counts st s n e o n (omega arith)
+
+  counts-none : (st : List ℕ) (s : State) (n : ℕ) → world .live ≡ off → openOf tags (g .reserved) volume st .answer ≡ taken (s, n)
+      → after tags (g .reserved) world (anOpen st ∷ replicate 0 aStep) .settled ≡ eqb 0 n
+  counts-none st s n e o = guaranteed tags g sized v formatted es .counts st s n e o 0 (omega arith)
+
+  -- any byte that is no journal's, data's or tag's, and any sector behind the last run
+  byte-kept : (b : ℕ) → Outside g b → getD volume b 0 ≡ getD fresh b 0
+  byte-kept b o = guaranteed tags g sized v formatted es .untouched b o
+
+  sector-behind : sectorAt volume (needed g) ≡ sectorAt fresh (needed g)
+  sector-behind = guaranteed tags g sized v formatted es .behind (needed g) (omega arith)
+
+-- ---- a batch is read back: none, and a sector and an id near 2^64
+
+abbrev highest : ℕ → Entry
+highest t = record { sector = 2 ^ 64 - 2; bytes = replicate 512 255; tag = replicate t 255 }
+
+no-batch : (g : Layout) → layoutOk g ≡ true → (k n : ℕ) → n ≢ 0 → n < 2 ^ 64 → usedOf (g .width) k (sealedSection g (emptySection (g .width)) n) ≡ []
+no-batch g ok k n z h = read-back g ok [] (omega arith) tt k n z h .1
+
+high-batch : (g : Layout) → layoutOk g ≡ true
+    → (wholeId (g .width) (sealedSection g (putBatch (g .width) (emptySection (g .width)) 0 (highest (g .width) ∷ [])) (2 ^ 64 - 1)) ≡ 2 ^ 64 - 1)
+    × (usedOf (g .width) 63 (sealedSection g (putBatch (g .width) (emptySection (g .width)) 0 (highest (g .width) ∷ [])) (2 ^ 64 - 1)) ≡ numbered 63 0 (highest (g .width) ∷ []))
+high-batch g ok =
+    let sized : AllSized (g .width) (highest (g .width) ∷ []) =
+    (record { sector = omega arith; bytes = length-replicate {A = ℕ} 512 255; tag = length-replicate {A = ℕ} (g .width) 255 }, tt) in
+    read-back g ok (highest (g .width) ∷ []) (omega (arith, per-pos (g .width) (omega (arith, ranged g ok .t .bound)))) sized 63 (2 ^ 64 - 1) (λ z. omega (arith, z)) (omega arith)
+
+-- ---- the last section, the last sector's data and tag
+
+last-section : (g : Layout) → layoutOk g ≡ true → 0 < g .sections → sectionAt g (g .sections - 1) + sectionSize (g .width) ≤ base g
+last-section g ok l = geometric g ok .journal (g .sections - 1) (omega arith) .1
+
+last-data : (g : Layout) → layoutOk g ≡ true → 0 < g .provided → dataAt g (g .provided - 1) < needed g
+last-data g ok l = geometric g ok .contents (g .provided - 1) (omega arith) .1
+
+neighbours : (g : Layout) → layoutOk g ≡ true → (s : ℕ) → Apart (tagByte g s) (g .width) (tagByte g (s + 1)) (g .width)
+neighbours g ok s = geometric g ok .tags-apart s (s + 1) (λ z. omega (arith, z))
+
+-- ---- with 64 reserved sectors, all of them other bytes
+
+other-reserved : (tags : Tags) (x y rest st : List ℕ) → length x ≡ 64 * 512 → length y ≡ 64 * 512 → openOf tags 64 (x ++ rest) st ≡ openOf tags 64 (y ++ rest) st
+other-reserved tags x y rest st lx ly =
+    reserved-unread tags 64 (x ++ rest) (y ++ rest) (length-append x rest ∙ omega arith ∙ sym (length-append y rest), behind x lx ∙ sym (behind y ly)) .opens st
+  where
+    behind : (z : List ℕ) → length z ≡ 64 * 512 → drop (64 * 512) (z ++ rest) ≡ rest
+    behind z l =
+        let none : 64 * 512 - length z ≡ 0 = omega arith in
+        drop-past z rest (64 * 512) (omega arith) ∙ ap (λ (n : ℕ). drop n rest) none
