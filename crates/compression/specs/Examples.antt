@@ -1,4 +1,4 @@
--- The worked examples of FIPS 180-4 for SHA-256, block by block, as theorems: the hash value after each block of a message of one block and of one of two,
+-- NIST's worked examples of FIPS 180-4 for SHA-256, block by block, as theorems: the hash value after each block of a message of one block and of one of two,
 -- padded as section 5.1.1 says. Crate digest has the same of the messages.
 --
 -- message : "abcdbcdecdefdefgefghfghighijhijkijkljklmklmnlmnomnopnopq", the longer of the two; the other is "abc"

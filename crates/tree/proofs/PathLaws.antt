@@ -6,14 +6,21 @@ use native.Mathlib.Omega.{arith}
 use mathlib.Core.Bool.{true, false, not}
 use mathlib.Core.List.{List, [], _∷_, _++_}
 use mathlib.Core.Path.{_≡_, refl, sym, ap, _∙_}
-use lib.ListN.{length, getD, take, drop, set}
-use lib.Seq.{take-suc, take-suc-set, take-all, length-take-le, getD-take}
+use lib.ListN.{length, getD, take, drop, set, replicate}
+use lib.Seq.{take-suc, take-suc-set, take-all, length-take-le, getD-take, drop-drop, drop-set-lt}
 use Rattle.octets.specs.Parts.{part, same}
 use Rattle.tree.specs.Places.{blockSize, digestSize}
 use Rattle.tree.specs.Tree.{blockOf, blockDigest}
 use Rattle.tree.specs.Path.{risersOf, computedOf, standingOf}
 use Rattle.tree.specs.Answer.{mismatch}
 use Rattle.tree.specs.Verify.{pathRows, comparedOf}
+
+-- ---- an array of n elements that is filled in: z stands behind the first j
+
+pub rest-turn : {A : Type 0} (z a : A) (r : List A) (n j : ℕ) → j < n → drop j r ≡ replicate (n - j) z → drop (j + 1) (set r j a) ≡ replicate (n - (j + 1)) z
+rest-turn z a r n j l e =
+    let next : n - j ≡ suc (n - (j + 1)) = omega arith in
+    drop-set-lt (j + 1) r j a (omega arith) ∙ sym (drop-drop 1 j r) ∙ ap (drop 1) (e ∙ ap (λ (k : ℕ). replicate k z) next)
 
 -- ---- the digests computed: those of the data block and of j hash blocks are there
 

@@ -3,19 +3,19 @@
 use crate::Answer;
 use crate::block_digest;
 use crate::places;
-ghost use Prim.Native.Nat.{ℕ, _+_, _*_, _/_, _<_, _≤_};
+ghost use Prim.Native.Nat.{ℕ, _+_, _-_, _*_, _/_, _<_, _≤_};
 ghost use mathlib.Core.Path.{_≡_};
-ghost use lib.ListN.{length, getD, take};
+ghost use lib.ListN.{length, getD, take, drop, replicate};
 ghost use Rattle.octets.specs.Parts.{part, same};
 ghost use Rattle.tree.specs.Places.{blockSize, digestSize, mostBlocks, mostLevels, longestSalt, placesOf};
 ghost use Rattle.tree.specs.Path.{computedOf, standingOf};
 ghost use Rattle.tree.specs.Answer.{mismatch, answerOf};
 ghost use Rattle.tree.specs.Verify.{comparedOf};
 
-// Where the digests along the path of block i of m stand, the lowest first.
+// Where the digests along the path of block i of m stand, the lowest first, and zeros behind them.
 pub(crate) fn places(h: usize, m: usize, i: usize) -> [usize; places::MOST_DIGESTS]
     requires { ⌜ (h ≤ mostLevels) × (m ≤ mostBlocks) × (i < m) ⌝ }
-    ensures { λ r. ⌜ (take h r ≡ placesOf h m i) × (length r ≡ mostLevels + 1) ⌝ }
+    ensures { λ r. ⌜ (take h r ≡ placesOf h m i) × (drop h r ≡ replicate (mostLevels + 1 - h) 0) × (length r ≡ mostLevels + 1) ⌝ }
 {
     let mut r = [0usize; places::MOST_DIGESTS];
     let mut below = m;
@@ -30,7 +30,8 @@ pub(crate) fn places(h: usize, m: usize, i: usize) -> [usize; places::MOST_DIGES
     r
 }
 
-// The digests computed along the path, filled in upwards: the data block's, and that of each hash block in which one of the h places lies.
+// The digests computed along the path, filled in upwards: the data block's, and that of each hash block in which one of the h places lies; zeros behind
+// them.
 pub(crate) fn computed(
     h: usize,
     salt: &[u8],
@@ -39,7 +40,7 @@ pub(crate) fn computed(
     at: [usize; places::MOST_DIGESTS],
 ) -> [[u8; 32]; places::MOST_DIGESTS]
     requires { ⌜ (h ≤ mostLevels) × (length (now salt) ≤ longestSalt) × (length (now block) ≡ blockSize) × ((j : ℕ) → j < h → getD at j 0 / blockSize * blockSize + blockSize ≤ length (now tree)) ⌝ }
-    ensures { λ r. ⌜ (take (h + 1) r ≡ computedOf (now (salt .entry)) (now (tree .entry)) (now (block .entry)) (take h at)) × (length r ≡ mostLevels + 1) ⌝ }
+    ensures { λ r. ⌜ (take (h + 1) r ≡ computedOf (now (salt .entry)) (now (tree .entry)) (now (block .entry)) (take h at)) × (drop (h + 1) r ≡ replicate (mostLevels + 1 - (h + 1)) (replicate digestSize 0)) × (length r ≡ mostLevels + 1) ⌝ }
 {
     let mut r = [[0u8; 32]; places::MOST_DIGESTS];
     r[0] = block_digest(salt, block);

@@ -1,4 +1,4 @@
--- The worked examples of FIPS 180-4 for SHA-256, as theorems: a message of one block and one of two. What their blocks lead to is computed in
+-- NIST's worked examples of FIPS 180-4 for SHA-256, as theorems: a message of one block and one of two. What their blocks lead to is computed in
 -- compression/specs/Examples. More vectors are run by the program digest_vectors.
 use mathlib.Core.Path.{_≡_, ap, _∙_}
 use mathlib.Core.List.{[], _∷_, _++_}

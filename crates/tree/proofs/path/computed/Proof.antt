@@ -2,17 +2,17 @@
 use Prim.Native.Nat.{_+_, _-_, _≤_}
 use native.Mathlib.Omega.{arith}
 use mathlib.Core.Path.{_≡_, refl}
-use lib.ListN.{length, take, replicate, length-set}
+use lib.ListN.{length, take, drop, replicate, length-set}
 use denote.Ref.{now}
 use borrow.Author.Needs.{needs}
 use Rattle.tree.specs.Places.{digestSize, mostLevels}
 use Rattle.tree.specs.Path.{computedOf}
-use Rattle.tree.proofs.PathLaws.{computed-start, computed-turn}
+use Rattle.tree.proofs.PathLaws.{rest-turn, computed-start, computed-turn}
 use Rattle.tree.proofs.path.computed.Statement.{statement}
 use Rattle.tree.proofs.path.computed.Tie as tie
 
 abbrev Inv-loop : tie.InvT-loop
-Inv-loop h salt tree block at r₀ j₀ r j = (j ≤ h) × (length r ≡ mostLevels + 1) × (take (j + 1) r ≡ computedOf salt tree block (take j at))
+Inv-loop h salt tree block at r₀ j₀ r j = (j ≤ h) × (length r ≡ mostLevels + 1) × (take (j + 1) r ≡ computedOf salt tree block (take j at)) × (drop (j + 1) r ≡ replicate (mostLevels + 1 - (j + 1)) (replicate digestSize 0))
 
 abbrev μ-loop : tie.MeasureT-loop
 μ-loop h salt tree block at r₀ j₀ r j = h - j
@@ -23,6 +23,7 @@ loop-holds c =
       omega arith,
       refl,
       computed-start (now (a .salt)) (now (a .tree)) (now (a .block)) (a .t5) (replicate (mostLevels + 1) (replicate digestSize 0)) (c .block-digest .result) (omega arith) (c .block-digest .ensures .0),
+      refl,
     )
 
 mul-from-2 : tie.Need-mul-from-2 Inv-loop μ-loop
@@ -41,13 +42,14 @@ loop-again c =
       omega arith,
       simp length-set (turn .inv .1),
       computed-turn (now (a .salt)) (now (a .tree)) (now (a .block)) (a .t5) (turn .r) (c .block-digest2 .result) (turn .j) (omega arith) (omega arith) (c .block-digest2 .ensures .0) (turn .inv .2),
+      rest-turn (replicate digestSize 0) (c .block-digest2 .result) (turn .r) (mostLevels + 1) (turn .j + 1) (omega arith) (turn .inv .3),
     )
 
 returns : tie.Need-returns Inv-loop μ-loop
 returns c =
     let turn = c .before .loop in
     let e : turn .j ≡ c .before .before .before .before .before .before .args .h = omega arith in
-    (rw e at (turn .inv .2), turn .inv .1)
+    (rw e at (turn .inv .2), rw e at (turn .inv .3), turn .inv .1)
 
 pub computed-spec : {M : Type 1} → statement M
 computed-spec =

@@ -3,22 +3,24 @@ use Prim.Native.Nat.{_+_, _-_, _≤_, _<_}
 use native.Mathlib.Omega.{arith}
 use mathlib.Core.List.{_++_}
 use mathlib.Core.Path.{_≡_, refl}
-use lib.ListN.{length, take, length-set}
+use lib.ListN.{length, take, drop, replicate, length-set}
 use borrow.Author.Needs.{needs}
 use Rattle.tree.specs.Places.{mostBlocks, mostLevels, placesOf}
 use Rattle.tree.proofs.PlaceLaws.{places-start, places-turn, places-end}
+use Rattle.tree.proofs.PathLaws.{rest-turn}
 use Rattle.tree.proofs.path.places.Statement.{statement}
 use Rattle.tree.proofs.path.places.Tie as tie
 
 abbrev Inv-loop : tie.InvT-loop
 Inv-loop h m i r₀ below₀ at₀ j₀ r below at j =
     (j ≤ h) × (below ≤ mostBlocks) × (at < below) × (length r ≡ mostLevels + 1) × (placesOf h m i ≡ take j r ++ placesOf (h - j) below at)
+    × (drop j r ≡ replicate (mostLevels + 1 - j) 0)
 
 abbrev μ-loop : tie.MeasureT-loop
 μ-loop h m i r₀ below₀ at₀ j₀ r below at j = h - j
 
 loop-holds : tie.Need-loop-holds Inv-loop μ-loop
-loop-holds c = (omega arith, omega arith, omega arith, refl, places-start (c .args .h) (c .args .m) (c .args .i))
+loop-holds c = (omega arith, omega arith, omega arith, refl, places-start (c .args .h) (c .args .m) (c .args .i), refl)
 
 loop-again : tie.Need-loop-again Inv-loop μ-loop
 loop-again c =
@@ -29,12 +31,14 @@ loop-again c =
       omega arith,
       simp length-set (turn .inv .3),
       places-turn _ (turn .r) (a .h) (turn .j) (turn .below) (turn .at) (c .before .digest-at .result) (c .parents .result) (c .before .before .loop-test .taken) (omega arith) (c .before .digest-at .ensures) (c .parents .ensures .0) (turn .inv .4),
+      rest-turn 0 (c .before .digest-at .result) (turn .r) (mostLevels + 1) (turn .j) (omega arith) (turn .inv .5),
     )
 
 returns : tie.Need-returns Inv-loop μ-loop
 returns c =
     let turn = c .before .loop in
-    (places-end _ (turn .r) _ (turn .j) (turn .below) (turn .at) (omega arith) (omega arith) (turn .inv .4), turn .inv .3)
+    let e : turn .j ≡ c .before .before .args .h = omega arith in
+    (places-end _ (turn .r) _ (turn .j) (turn .below) (turn .at) (omega arith) (omega arith) (turn .inv .4), rw e at (turn .inv .5), turn .inv .3)
 
 pub places-spec : {M : Type 1} → statement M
 places-spec =
