@@ -1,19 +1,22 @@
 -- Loops over the sections of a journal, and over the sectors of one: what each has found.
 use Prim.Native.Nat.{ℕ, zero, suc, _-_, _≤_, _<_}
-use mathlib.Core.Bool.{Bool, true, false, not}
+use mathlib.Core.Bool.{Bool, true, false, not, _&&_}
 use mathlib.Core.List.{List}
 use mathlib.Core.Logic.{_≢_}
 use mathlib.Core.Path.{_≡_, refl, sym, ap, _∙_}
 use native.Mathlib.Decide.{decLt}
 use native.Mathlib.Omega.{arith}
+use lib.ListN.{getD}
 use borrow.Author.Tests.{eq-eqb, ne-eqb}
 use Rattle.octets.specs.Choice.{pick}
 use Rattle.octets.specs.Sectors.{sectorAt}
-use Rattle.model.specs.Layout.{sectionSize}
+use Rattle.model.specs.Layout.{sectionSize, layoutOk}
 use Rattle.model.specs.Section.{idOf, wholeId, allBelow}
 use Rattle.model.specs.Journal.{sectionOf, sectionFor, wholeIds}
-use Rattle.model.specs.Open.{misplaced, firstBelow}
+use Rattle.model.specs.Open.{misplacedId, misplaced, firstBelow}
 use Rattle.model.specs.declared.Layout.{Layout}
+use Rattle.journal.specs.Replay.{idsOf}
+use Rattle.journal.proofs.Walks.{getD-ids}
 use Rattle.model.proofs.Journals.{all-below, below-all, whole-all, whole-not}
 
 -- ---- the scan of a section, left at the first sector whose id differs from that of sector 0
@@ -76,16 +79,30 @@ module _ (f : ℕ → Bool) where
 
 -- ---- a section in its place
 
-module _ (g : Layout) (v : List ℕ) (k id : ℕ) (is : id ≡ wholeIds g v k) where
-  pub not-misplaced : id ≡ 0 → misplaced g v k ≡ false
-  not-misplaced z = rw (eq-eqb (wholeIds g v k) 0 (sym is ∙ z))
+module _ (g : Layout) (k id : ℕ) where
+  pub not-misplaced : id ≡ 0 → misplacedId g id k ≡ false
+  not-misplaced z = rw (eq-eqb id 0 z)
 
   module _ (r : ℕ) (at : r ≡ sectionFor g id) (nz : id ≢ 0) where
-    there : sectionFor g (wholeIds g v k) ≡ r
-    there = sym (at ∙ ap (sectionFor g) is)
+    pub in-place : r ≡ k → misplacedId g id k ≡ false
+    in-place e = rw (ne-eqb id 0 nz, eq-eqb (sectionFor g id) k (sym at ∙ e))
 
-    pub in-place : r ≡ k → misplaced g v k ≡ false
-    in-place e = rw (ne-eqb (wholeIds g v k) 0 (λ z. nz (is ∙ z)), eq-eqb (sectionFor g (wholeIds g v k)) k (there ∙ e))
+    pub is-misplaced : r ≢ k → misplacedId g id k ≡ true
+    is-misplaced n = rw (ne-eqb id 0 nz, ne-eqb (sectionFor g id) k (λ z. n (at ∙ z)))
 
-    pub is-misplaced : r ≢ k → misplaced g v k ≡ true
-    is-misplaced n = rw (ne-eqb (wholeIds g v k) 0 (λ z. nz (is ∙ z)), ne-eqb (sectionFor g (wholeIds g v k)) k (λ z. n (sym there ∙ z)))
+-- ---- a search that looks at the same values
+
+all-same : (n : ℕ) (f h : ℕ → Bool) → ((k : ℕ) → k < n → f k ≡ h k) → allBelow n f ≡ allBelow n h
+all-same zero f h e = refl
+all-same (suc n) f h e = λ i. all-same n f h (λ k l. e k (omega arith)) i && e n (omega arith) i
+
+pub first-same : (n : ℕ) (f h : ℕ → Bool) → ((k : ℕ) → k < n → f k ≡ h k) → firstBelow (suc n) f ≡ firstBelow (suc n) h
+first-same zero f h e = refl
+first-same (suc n) f h e =
+    λ i. pick (all-same (suc n) (λ k. not (f k)) (λ k. not (h k)) (λ k l. ap not (e k l)) i) (suc n) (first-same n f h (λ k l. e k (omega arith)) i)
+
+-- the sections that stand in the wrong place, by the ids of a volume
+pub misplaced-first : (g : Layout) (v : List ℕ) → layoutOk g ≡ true → (ids : List ℕ) → ids ≡ idsOf g v
+    → firstBelow (suc (g .sections)) (λ k. misplacedId g (getD ids k 0) k) ≡ firstBelow (suc (g .sections)) (misplaced g v)
+misplaced-first g v ok ids e =
+    first-same (g .sections) (λ k. misplacedId g (getD ids k 0) k) (misplaced g v) (λ k l. ap (λ (n : ℕ). misplacedId g n k) (getD-ids g v ids e k l))

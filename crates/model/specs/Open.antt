@@ -1,7 +1,8 @@
 -- Open: document 01, "Working a volume", Open; refusals 1 (volume), 2 (r), 5 (short of r + 8), 3, 4, 5, 1 (staging), 10, 11 by section, then 6 and 7 entry
 -- by entry in replay order. It stores nothing on the volume.
 --
--- misplaced g v k        : whether section k is whole and stands in the wrong place
+-- misplacedId g n k      : whether a section with the id n, 0 where it is not whole, stands in the wrong place as section k
+-- misplaced g v k        : whether section k of the volume v does
 -- superblockRows g r v   : the rules up to the second 5, for the layout g that the superblock holds
 -- openRows g r v st      : the rules up to 11
 -- entriesVerdict ..      : the rules 6 and 7, entry by entry
@@ -27,10 +28,13 @@ use Rattle.model.specs.Tag.{Tag, Tags}
 use Rattle.model.specs.Store.{storesOf}
 use Rattle.model.specs.State.{Verdict, passed, lastId, volumeLoanOk, stagingOk}
 
-abbrev pub misplaced : Layout → List ℕ → ℕ → Bool
-misplaced g v k = not (eqb (wholeIds g v k) 0) && not (eqb (sectionFor g (wholeIds g v k)) k)
+abbrev pub misplacedId : Layout → ℕ → ℕ → Bool
+misplacedId g n k = not (eqb n 0) && not (eqb (sectionFor g n) k)
 
--- the least number below n of which f holds
+abbrev pub misplaced : Layout → List ℕ → ℕ → Bool
+misplaced g v k = misplacedId g (wholeIds g v k) k
+
+-- the least number below n of which f holds; n − 1 where there is none below that
 abbrev pub firstBelow : ℕ → (ℕ → Bool) → ℕ
 firstBelow zero f = 0
 firstBelow (suc n) f = pick (allBelow n (λ k. not (f k))) n (firstBelow n f)

@@ -3,6 +3,7 @@ use borrow.Author.Needs.{needs}
 use borrow.Author.Tests.{not-true, not-false}
 use Rattle.layout.proofs.Sizes.{width-high, sections-low}
 use Rattle.model.specs.Tag.{tagOf}
+use Rattle.journal.proofs.Scans.{misplaced-first}
 use Rattle.model.proofs.States.{staging-length}
 use Rattle.volume_open.proofs.Opens.{wrong-staging, exhausted, section-misplaced, entry-refused, opened}
 use Rattle.volume_open.proofs.open.open_journal.Statement.{statement}
@@ -27,7 +28,7 @@ returns-3 c =
     let a = c .before .before .before .before .before .before .before .before .before .before .before .before .args in
     section-misplaced tagOf (a .g) (a .g .reserved) (a .v .now) (a .st .now) (c .before .before .before .before .before .before .before .before .before .before .before .before .pre .2) (sym (c .before .before .before .before .before .before .before .before .staging-ok .ensures) ∙ not-false _ (c .before .before .before .before .before .before .before .if1 .left))
     (c .before .before .before .before .before .before .greatest-id .result) (c .before .before .before .before .before .before .greatest-id .ensures) (c .before .if2 .left)
-    (c .before .before .first-misplaced .result) (c .before .before .first-misplaced .ensures (a .v .now) (c .before .before .before .before .scan .ensures)) (c .if3 .taken)
+    (c .before .before .first-misplaced .result) (c .before .before .first-misplaced .ensures ∙ misplaced-first (a .g) (a .v .now) (c .before .before .before .before .before .before .before .before .before .before .before .before .pre .0) _ (c .before .before .before .before .scan .ensures)) (c .if3 .taken)
 
 check-replay-requires : tie.Need-check-replay-requires
 check-replay-requires c κs = (c .before .before .before .before .before .before .before .before .before .before .before .before .before .pre .0, c .before .before .before .before .before .before .before .before .before .before .before .before .before .pre .1, c .before .before .before .before .before .scan .ensures)
@@ -37,7 +38,7 @@ returns-4 c =
     let a = c .before .before .before .before .before .before .before .before .before .before .before .before .before .before .before .before .before .args in
     entry-refused tagOf (a .g) (a .g .reserved) (a .v .now) (a .st .now) (c .before .before .before .before .before .before .before .before .before .before .before .before .before .before .before .before .before .pre .2) (sym (c .before .before .before .before .before .before .before .before .before .before .before .before .before .staging-ok .ensures) ∙ not-false _ (c .before .before .before .before .before .before .before .before .before .before .before .before .if1 .left))
     (c .before .before .before .before .before .before .before .before .before .before .before .greatest-id .result) (c .before .before .before .before .before .before .before .before .before .before .before .greatest-id .ensures) (c .before .before .before .before .before .before .if2 .left)
-    (c .before .before .before .before .before .before .before .first-misplaced .result) (c .before .before .before .before .before .before .before .first-misplaced .ensures (a .v .now) (c .before .before .before .before .before .before .before .before .before .scan .ensures)) (sections-low (a .g) (c .before .before .before .before .before .before .before .before .before .before .before .before .before .before .before .before .before .pre .0)) (c .before .before .before .before .before .if3 .left)
+    (c .before .before .before .before .before .before .before .first-misplaced .result) (c .before .before .before .before .before .before .before .first-misplaced .ensures ∙ misplaced-first (a .g) (a .v .now) (c .before .before .before .before .before .before .before .before .before .before .before .before .before .before .before .before .before .pre .0) _ (c .before .before .before .before .before .before .before .before .before .scan .ensures)) (sections-low (a .g) (c .before .before .before .before .before .before .before .before .before .before .before .before .before .before .before .before .before .pre .0)) (c .before .before .before .before .before .if3 .left)
     (c .before .before .before .check-replay .result) (c .before .before .before .check-replay .ensures) _ (c .before .check .given .1)
 
 clear-section-requires : tie.Need-clear-section-requires
@@ -53,7 +54,7 @@ returns-5 c =
     let a = c .before .before .before .before .before .before .before .before .before .before .before .before .before .before .before .before .before .before .before .before .before .before .before .args in
     opened tagOf (a .g) (a .g .reserved) (a .v .now) (a .st .now) (c .before .before .before .before .before .before .before .before .before .before .before .before .before .before .before .before .before .before .before .before .before .before .before .pre .2) (sym (c .before .before .before .before .before .before .before .before .before .before .before .before .before .before .before .before .before .before .before .staging-ok .ensures) ∙ not-false _ (c .before .before .before .before .before .before .before .before .before .before .before .before .before .before .before .before .before .before .if1 .left))
     (c .before .before .before .before .before .before .before .before .before .before .before .before .before .before .before .before .before .greatest-id .result) (c .before .before .before .before .before .before .before .before .before .before .before .before .before .before .before .before .before .greatest-id .ensures) (c .before .before .before .before .before .before .before .before .before .before .before .before .if2 .left)
-    (c .before .before .before .before .before .before .before .before .before .before .before .before .before .first-misplaced .result) (c .before .before .before .before .before .before .before .before .before .before .before .before .before .first-misplaced .ensures (a .v .now) (c .before .before .before .before .before .before .before .before .before .before .before .before .before .before .before .scan .ensures)) (sections-low (a .g) (c .before .before .before .before .before .before .before .before .before .before .before .before .before .before .before .before .before .before .before .before .before .before .before .pre .0)) (c .before .before .before .before .before .before .before .before .before .before .before .if3 .left)
+    (c .before .before .before .before .before .before .before .before .before .before .before .before .before .first-misplaced .result) (c .before .before .before .before .before .before .before .before .before .before .before .before .before .first-misplaced .ensures ∙ misplaced-first (a .g) (a .v .now) (c .before .before .before .before .before .before .before .before .before .before .before .before .before .before .before .before .before .before .before .before .before .before .before .pre .0) _ (c .before .before .before .before .before .before .before .before .before .before .before .before .before .before .before .scan .ensures)) (sections-low (a .g) (c .before .before .before .before .before .before .before .before .before .before .before .before .before .before .before .before .before .before .before .before .before .before .before .pre .0)) (c .before .before .before .before .before .before .before .before .before .before .before .if3 .left)
     (c .before .before .before .before .before .before .before .before .before .check-replay .result) (c .before .before .before .before .before .before .before .before .before .check-replay .ensures) (c .before .before .before .before .before .before .before .enum-told .given .1)
     (c .before .before .before .before .before .clear-section .last .0) (c .before .before .before .before .before .clear-section .ensures)
     (c .before .count-stores .result) (c .before .count-stores .ensures) (c .phase-for .result) (c .phase-for .ensures)
