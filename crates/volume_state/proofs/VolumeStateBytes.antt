@@ -9,13 +9,14 @@ use lib.Dec.{eqb}
 use lib.ListN.{length, getD}
 use lib.Seq.{take-all}
 use borrow.Author.Tests.{eqb-true, eq-eqb, ne-eqb}
-use Rattle.octets.specs.Numbers.{Bytes, value}
+use Rattle.octets.specs.Numbers.{value}
 use Rattle.octets.proofs.Numbers.{value-le}
 use Rattle.model.specs.declared.Phase.{Phase}
 use Rattle.model.specs.declared.Phase.the-variants.{Filling, Committing, WritingBack, Recovering}
 use Rattle.model.specs.declared.State.{State}
 use Rattle.model.proofs.Replays.{Which, isTrue, isFalse, which}
 use Rattle.buffers.specs.Numbers.{numbersIn, numberBytes}
+use Rattle.volume_state.specs.Theorems.{DecodeEncode, EncodeBytes, EncodeDecode, DecodeState}
 use Rattle.volume_state.specs.VolumeState.{stateSize, numberAt, phaseNumbersOf, phaseOf, isPhase, layoutBytesOf, layoutOf, encodeOf, decodeOf, encodesState, IsState}
 use Rattle.buffers.proofs.NumberBytes.{length-number-bytes, bytes-number-bytes, number-bytes-append, number-at, bytes-of-numbers, number-below}
 
@@ -129,7 +130,7 @@ module _ (s : State) where
     second-back = number-back 7 (phaseNumbersOf (s .phase) .second) (omega arith) refl (v .second)
 
 -- every state is read back from its bytes
-pub decode-encode : (s : State) → IsState s → decodeOf (encodeOf s) ≡ s
+pub decode-encode : DecodeEncode
 unfolding decodeOf layoutNumbers restNumbers
 decode-encode s v =
     rw (
@@ -147,7 +148,7 @@ length-of-state : (s : State) → length (encodeOf s) ≡ stateSize
 unfolding layoutNumbers restNumbers
 length-of-state s = ap length (encode-numbers s) ∙ length-number-bytes 8 (layoutNumbers s ++ restNumbers s)
 
-pub encode-bytes : (s : State) → IsState s → (encodesState (encodeOf s) ≡ true) × Bytes (encodeOf s)
+pub encode-bytes : EncodeBytes
 unfolding encodesState
 encode-bytes s v = (
   rw (eq-eqb (length (encodeOf s)) stateSize (length-of-state s), which-back s v, first-back s v, second-back s v) (phase-numbers (s .phase)),
@@ -168,7 +169,7 @@ unfolding encodesState
 encodes-phase b e = both (eqb (length b) stateSize) (isPhase (numberAt b 5) (numberAt b 6) (numberAt b 7)) e .1
 
 -- bytes that encode a state are those of the state read from them
-pub encode-decode : (b : List ℕ) → Bytes b → encodesState b ≡ true → encodeOf (decodeOf b) ≡ b
+pub encode-decode : EncodeDecode
 unfolding decodeOf layoutOf layoutNumbers restNumbers numbersIn
 encode-decode b h e =
     let size : length b ≡ stateSize = encodes-length b e in
@@ -177,7 +178,7 @@ encode-decode b h e =
     ∙ take-all 80 b (omega arith)
 
 -- and that is a state
-pub decode-state : (b : List ℕ) → Bytes b → encodesState b ≡ true → IsState (decodeOf b)
+pub decode-state : DecodeState
 unfolding decodeOf layoutOf
 decode-state b h e =
     let size : length b ≡ stateSize = encodes-length b e in

@@ -1,2 +1,3 @@
 -- How a state and a layout lie in buffers.
 pub mod VolumeState
+pub mod Theorems
