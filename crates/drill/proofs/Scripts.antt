@@ -10,7 +10,7 @@ use lib.Dec.{eqb}
 use borrow.Author.Tests.{ne-eqb}
 use Rattle.octets.specs.Choice.{firstMet}
 use Rattle.octets.specs.Sectors.{sectorSize}
-use Rattle.model.specs.Tag.{Tag}
+use Rattle.model.specs.Tag.{Tags}
 use Rattle.model.specs.World.{Event, aCut, anOpen, aWrite, aFlush, aStep, aRead, off, World, unmoved, play, next, after}
 use Rattle.drill.specs.Script.{eventOf, eventAt, eventsUpTo}
 
@@ -46,11 +46,11 @@ module _ (n s b : ℕ) where
   read-of k a c d e f = rw (ne-eqb k 0 a, ne-eqb k 1 c, ne-eqb k 2 d, ne-eqb k 3 e, ne-eqb k 4 f)
 
   -- while nothing is live, an event that is no open changes nothing
-  pub nothing-live : (tag : Tag) (r k : ℕ) (v : List ℕ) → k ≢ 1 → play tag r v off (eventOf n k s b) ≡ unmoved v off
+  pub nothing-live : (tags : Tags) (r k : ℕ) (v : List ℕ) → k ≢ 1 → play tags r v off (eventOf n k s b) ≡ unmoved v off
   unfolding eventOf
-  nothing-live tag r k v e = rw (ne-eqb k 1 e) (go (eqb k 0) (eqb k 2) (eqb k 3) (eqb k 4))
+  nothing-live tags r k v e = rw (ne-eqb k 1 e) (go (eqb k 0) (eqb k 2) (eqb k 3) (eqb k 4))
     where
-      go : (c d f g : Bool) → play tag r v off (firstMet ((c, aCut) ∷ (false, anOpen (replicate n b)) ∷ (d, aWrite s (replicate sectorSize b)) ∷ (f, aFlush) ∷ (g, aStep) ∷ []) (aRead s (replicate sectorSize b))) ≡ unmoved v off
+      go : (c d f g : Bool) → play tags r v off (firstMet ((c, aCut) ∷ (false, anOpen (replicate n b)) ∷ (d, aWrite s (replicate sectorSize b)) ∷ (f, aFlush) ∷ (g, aStep) ∷ []) (aRead s (replicate sectorSize b))) ≡ unmoved v off
       go true d f g = refl
       go false true f g = refl
       go false false true g = refl
@@ -59,12 +59,12 @@ module _ (n s b : ℕ) where
 
 -- ---- one event more
 
-module _ (tag : Tag) (r : ℕ) where
-  pub after-more : (w : World) (es : List Event) (e : Event) → after tag r w (es ++ (e ∷ [])) ≡ next tag r (after tag r w es) e
+module _ (tags : Tags) (r : ℕ) where
+  pub after-more : (w : World) (es : List Event) (e : Event) → after tags r w (es ++ (e ∷ [])) ≡ next tags r (after tags r w es) e
   unfolding after
   after-more w [] e = refl
-  after-more w (x ∷ es) e = after-more (next tag r w x) es e
+  after-more w (x ∷ es) e = after-more (next tags r w x) es e
 
   pub script-more : (w : World) (n i : ℕ) (script : List ℕ)
-      → after tag r w (eventsUpTo n script (i + 1)) ≡ next tag r (after tag r w (eventsUpTo n script i)) (eventAt n script i)
+      → after tags r w (eventsUpTo n script (i + 1)) ≡ next tags r (after tags r w (eventsUpTo n script i)) (eventAt n script i)
   script-more w n i script = rw add-one (after-more w (eventsUpTo n script i) (eventAt n script i))

@@ -12,14 +12,13 @@ ghost use mathlib.Core.Bool.{false};
 ghost use mathlib.Core.List.{List};
 ghost use mathlib.Core.Path.{_≡_};
 ghost use lib.ListN.{length};
-ghost use Rattle.model.specs.declared.FormatAnswer.the-variants.{Formatted};
-ghost use Rattle.model.specs.Format.{formatOf};
+ghost use Rattle.model.specs.Refusal.{openAnswer};
 ghost use Rattle.model.specs.Step.{stepOf};
 ghost use Rattle.model.specs.Tag.{tagOf};
 ghost use Rattle.model.specs.World.{off, on};
 ghost use Rattle.model.specs.World as lists;
-ghost use Rattle.drill.specs.Script.{eventOf};
-ghost use Rattle.drill.specs.Played.{liveOf, worldOf, liveAfter, tagFor, volumeTag, worldGiven, Plays};
+ghost use Rattle.drill.specs.Script.{eventOf, eventsOf};
+ghost use Rattle.drill.specs.Played.{liveOf, worldOf, Plays};
 
 // The kinds of event; any other is a read.
 pub const CUT: u8 = 0;
@@ -71,13 +70,13 @@ pub fn play(g: Layout, script: &[u8], v: &mut [u8], st: &mut [u8]) -> Played
     }
     Played {
         format: answer,
-        last: events(g, script, v, st),
+        last: events(g.reserved, script, v, st),
     }
 }
 
-// Plays the script on a volume as format left it.
-fn events(g: Layout, script: &[u8], v: &mut [u8], st: &mut [u8]) -> Moment
-    ensures { λ m. ⌜ ((u : List ℕ) → formatOf (tagOf (g .width)) g u .answer ≡ Formatted → now (v .entry) ≡ formatOf (tagOf (g .width)) g u .volume → worldOf m (now (v .exit)) (now (st .exit)) ≡ worldGiven g (now (script .entry)) u (length (now (st .entry)))) ⌝ }
+// Plays the script on a volume with r reserved sectors.
+fn events(r: usize, script: &[u8], v: &mut [u8], st: &mut [u8]) -> Moment
+    ensures { λ m. ⌜ worldOf m (now (v .exit)) (now (st .exit)) ≡ lists.after tagOf r (lists.begin (now (v .entry))) (eventsOf (length (now (st .entry))) (now (script .entry))) ⌝ }
 {
     let count = script.len() / EVENT_SIZE;
     let mut last = at_rest(Live::Off);
@@ -86,7 +85,7 @@ fn events(g: Layout, script: &[u8], v: &mut [u8], st: &mut [u8]) -> Moment
         let live = last.live;
         let at = i * EVENT_SIZE;
         let sector = octets::number(script, at + 1, 2) as usize;
-        let next = event(g.reserved, live, v, st, script[at], sector, script[at + 3]);
+        let next = event(r, live, v, st, script[at], sector, script[at + 3]);
         last = next;
         i += 1;
     }
@@ -113,7 +112,7 @@ fn event(
     sector: usize,
     fill: u8,
 ) -> Moment
-    ensures { λ m. ⌜ worldOf m (now (v .exit)) (now (st .exit)) ≡ lists.play (tagFor r live (now (v .entry))) r (now (v .entry)) (liveOf live (now (st .entry))) (eventOf (length (now (st .entry))) kind sector fill) ⌝ }
+    ensures { λ m. ⌜ worldOf m (now (v .exit)) (now (st .exit)) ≡ lists.play tagOf r (now (v .entry)) (liveOf live (now (st .entry))) (eventOf (length (now (st .entry))) kind sector fill) ⌝ }
 {
     match live {
         Live::Off => event_off(r, v, st, kind, sector, fill),
@@ -123,7 +122,7 @@ fn event(
 
 // While nothing is live only an open is made.
 fn event_off(r: usize, v: &[u8], st: &mut [u8], kind: u8, sector: usize, fill: u8) -> Moment
-    ensures { λ m. ⌜ worldOf m (now (v .entry)) (now (st .exit)) ≡ lists.play (volumeTag r (now (v .entry))) r (now (v .entry)) off (eventOf (length (now (st .entry))) kind sector fill) ⌝ }
+    ensures { λ m. ⌜ worldOf m (now (v .entry)) (now (st .exit)) ≡ lists.play tagOf r (now (v .entry)) off (eventOf (length (now (st .entry))) kind sector fill) ⌝ }
 {
     if kind != OPEN {
         return at_rest(Live::Off);
@@ -137,7 +136,7 @@ fn event_off(r: usize, v: &[u8], st: &mut [u8], kind: u8, sector: usize, fill: u
 }
 
 fn live_after(a: OpenAnswer) -> Live
-    ensures { λ r. ⌜ r ≡ liveAfter a ⌝ }
+    ensures { λ r. ⌜ ((st : List ℕ) → liveOf r st ≡ lists.openLive st (openAnswer a)) ⌝ }
 {
     match a {
         OpenAnswer::Opened(s, _) => Live::On(s),
@@ -147,7 +146,7 @@ fn live_after(a: OpenAnswer) -> Live
 
 // Whether an open was taken, and reports no store to come.
 fn nothing_to_come(a: OpenAnswer) -> bool
-    ensures { λ r. ⌜ r ≡ lists.openSettles a ⌝ }
+    ensures { λ r. ⌜ r ≡ lists.openSettles (openAnswer a) ⌝ }
 {
     match a {
         OpenAnswer::Opened(_, stores) => stores == 0,
@@ -165,7 +164,7 @@ fn event_on(
     sector: usize,
     fill: u8,
 ) -> Moment
-    ensures { λ m. ⌜ worldOf m (now (v .exit)) (now (st .exit)) ≡ lists.play (tagOf (s .layout .width)) r (now (v .entry)) (on s (now (st .entry))) (eventOf (length (now (st .entry))) kind sector fill) ⌝ }
+    ensures { λ m. ⌜ worldOf m (now (v .exit)) (now (st .exit)) ≡ lists.play tagOf r (now (v .entry)) (on s (now (st .entry))) (eventOf (length (now (st .entry))) kind sector fill) ⌝ }
 {
     if kind == CUT {
         return at_rest(Live::Off);

@@ -1,6 +1,6 @@
 use borrow.Author.Needs.{needs}
 use mathlib.Core.Path.{refl}
-use Rattle.drill.specs.Played.{volumeTag}
+use Rattle.model.specs.Tag.{tagOf}
 use Rattle.drill.proofs.Turns.{stays-off, opens}
 use lib.ListN.{length}
 use Rattle.drill.proofs.event_off.Statement.{statement}
@@ -10,13 +10,13 @@ use Rattle.drill.proofs.event_off.Tie as tie
 returns : tie.Need-returns
 returns c =
     let a = c .before .before .before .before .args in
-    stays-off (volumeTag (a .r) (a .v .now)) (a .r) (length (a .st .now)) (a .kind) (a .sector) (a .fill) (a .v .now) (a .st .now) (c .at-rest .result) (c .at-rest .ensures) (c .before .if1 .taken)
+    stays-off tagOf (a .r) (length (a .st .now)) (a .kind) (a .sector) (a .fill) (a .v .now) (a .st .now) (c .at-rest .result) (c .at-rest .ensures) (c .before .if1 .taken)
 
 -- src/lib.rt:128:1
 returns-2 : tie.Need-returns-2
 returns-2 c =
     let a = c .before .before .before .before .before .before .before .before .before .before .before .before .before .args in
-    opens (volumeTag (a .r) (a .v .now)) (a .r) (length (a .st .now)) (a .kind) (a .sector) (a .fill) (a .v .now) (a .st .now) _ _ refl (c .before .before .before .before .before .before .before .before .fill-at .ensures) (c .before .before .before .before .before .before .before .before .before .before .if1 .left) _ (c .before .before .before .before .«open» .ensures) (c .before .live-after .result) (c .nothing-to-come .result) (c .before .live-after .ensures) (c .nothing-to-come .ensures)
+    opens tagOf (a .r) (length (a .st .now)) (a .kind) (a .sector) (a .fill) (a .v .now) (a .st .now) _ _ refl (c .before .before .before .before .before .before .before .before .fill-at .ensures) (c .before .before .before .before .before .before .before .before .before .before .if1 .left) (c .before .before .before .before .«open» .result) (c .before .before .before .before .«open» .ensures) (c .before .live-after .result) (c .nothing-to-come .result) (c .before .live-after .ensures) (c .nothing-to-come .ensures)
 
 pub event-off-spec : {M : Type 1} → statement M
 event-off-spec =

@@ -1,9 +1,6 @@
 use borrow.Author.Needs.{needs}
-use mathlib.Core.List.{List}
 use Rattle.model.specs.Tag.{tagOf}
-use Rattle.model.specs.Format.{formatOf}
-use Rattle.model.specs.Guarantees as lists
-use Rattle.model.specs.declared.FormatAnswer.the-variants.{Formatted}
+use Rattle.model.specs.World.{begin, after}
 use Rattle.drill.specs.Script.{eventsUpTo}
 use Rattle.drill.specs.Played.{worldOf}
 use Rattle.drill.proofs.Worlds.{begins, event-played}
@@ -15,18 +12,17 @@ use Rattle.drill.proofs.events.Statement.{statement}
 use Rattle.drill.proofs.events.Tie as tie
 
 abbrev Inv-loop : tie.InvT-loop
-Inv-loop g script v₀ st₀ count last₀ i₀ v st last i = (i ≤ count) × (count ≡ length script / 4) × (length v ≡ length v₀) × (length st ≡ length st₀)
-    × ((u : List ℕ) → formatOf (tagOf (g .width)) g u .answer ≡ Formatted → v₀ ≡ formatOf (tagOf (g .width)) g u .volume
-    → worldOf last v st ≡ lists.worldOf (tagOf (g .width)) g u (eventsUpTo (length st₀) script i))
+Inv-loop r script v₀ st₀ count last₀ i₀ v st last i = (i ≤ count) × (count ≡ length script / 4) × (length v ≡ length v₀) × (length st ≡ length st₀)
+    × (worldOf last v st ≡ after tagOf r (begin v₀) (eventsUpTo (length st₀) script i))
 
 abbrev μ-loop : tie.MeasureT-loop
-μ-loop g script v₀ st₀ count last₀ i₀ v st last i = count - i
+μ-loop r script v₀ st₀ count last₀ i₀ v st last i = count - i
 
 -- src/lib.rt:88:5
 loop-holds : tie.Need-loop-holds Inv-loop μ-loop
 loop-holds c =
     let a = c .before .before .before .before .args in
-    (omega arith, refl, refl, refl, λ u ok e. begins (a .g) u ok (a .v .now) (a .st .now) _ (c .at-rest .ensures) e)
+    (omega arith, refl, refl, refl, begins (a .r) (a .v .now) (a .st .now) _ (c .at-rest .ensures))
 
 -- src/lib.rt:88:5
 loop-again : tie.Need-loop-again Inv-loop μ-loop
@@ -38,7 +34,7 @@ loop-again c =
       turn .inv .1,
       omega (arith, called .kept .1 .1 .0, turn .inv .2),
       omega (arith, called .kept .1 .1 .1 .0, turn .inv .3),
-      λ u ok e. event-played (a .g) u ok (length (a .st .now)) (turn .i) (a .script .now) (turn .v) (turn .st) _ _ (turn .last) (called .result) (turn .inv .4 u ok e) _ _ _ (called .ensures) (turn .inv .3) refl (c .before .before .before .before .before .before .before .before .before .number .ensures .0) refl,
+      event-played (a .r) (a .v .now) (length (a .st .now)) (turn .i) (a .script .now) (turn .v) (turn .st) _ _ (turn .last) (called .result) (turn .inv .4) _ _ _ (called .ensures) (turn .inv .3) refl (c .before .before .before .before .before .before .before .before .before .number .ensures .0) refl,
     )
 
 -- src/lib.rt:82:1
@@ -47,7 +43,7 @@ returns c =
     let a = c .before .before .before .before .before .before .args in
     let turn = c .before .loop in
     let all : turn .i ≡ length (a .script .now) / 4 = omega (arith, c .loop-test .left, turn .inv .0, turn .inv .1) in
-    λ u ok e. turn .inv .4 u ok e ∙ ap (λ (m : ℕ). lists.worldOf (tagOf (a .g .width)) (a .g) u (eventsUpTo (length (a .st .now)) (a .script .now) m)) all
+    turn .inv .4 ∙ ap (λ (m : ℕ). after tagOf (a .r) (begin (a .v .now)) (eventsUpTo (length (a .st .now)) (a .script .now) m)) all
 
 pub events-spec : {M : Type 1} → statement M
 events-spec =
