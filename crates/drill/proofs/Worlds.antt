@@ -1,93 +1,97 @@
 -- Drills, event by event, and a whole drill.
 use Prim.Native.Nat.{ℕ, _+_, _*_}
-use mathlib.Core.Bool.{false}
+use mathlib.Core.Bool.{true, false, true≢false}
 use mathlib.Core.List.{List, []}
 use mathlib.Core.Path.{_≡_, refl, sym, ap, _∙_, subst}
 use lib.ListN.{length, getD}
-use Rattle.octets.specs.Answer.{Refusal, taken, refused}
-use Rattle.octets.specs.Choice.{firstMet}
+use Rattle.octets.specs.Answer.{taken, refused, isTaken}
+use Rattle.octets.specs.Choice.{pick}
 use Rattle.octets.specs.Numbers.{value}
 use Rattle.octets.specs.Parts.{part}
-use Rattle.octets.proofs.Answers.{refused-not-taken}
 use Rattle.model.specs.Tag.{tagOf}
-use Rattle.model.specs.State.{Verdict, passed}
-use Rattle.model.specs.Refusal.{refusalOf, formatAnswer}
-use Rattle.model.specs.Format.{FormatResult, formatRows, formatBy, formatOf}
-use Rattle.model.specs.World.{Event, World, play, next, begin, after}
+use Rattle.model.specs.State.{Verdict}
+use Rattle.model.specs.Refusal.{formatAnswer}
+use Rattle.model.specs.Format.{FormatResult, formatOf}
+use Rattle.model.specs.World.{Event, World, next, begin, after}
+use Rattle.model.specs.Guarantees as lists
 use Rattle.model.specs.Demand3.{Agrees}
 use Rattle.model.proofs.Demand3.{demand3-sha256}
 use Rattle.model.specs.declared.FormatAnswer.{FormatAnswer}
-use Rattle.model.specs.declared.FormatAnswer.the-variants as answers
-use Rattle.model.specs.declared.Refusal as code
+use Rattle.model.specs.declared.FormatAnswer.the-variants.{Formatted, Refused}
+use Rattle.model.specs.declared.Refusal.{Refusal}
 use Rattle.model.specs.declared.Layout.{Layout}
 use Rattle.drill.specs.declared.Live.the-variants.{Off}
 use Rattle.drill.specs.declared.Moment.{Moment}
 use Rattle.drill.specs.Script.{eventSize, eventOf, eventAt, eventsUpTo, eventsOf}
-use Rattle.drill.specs.Played.{liveOf, worldOf, worldGiven, ledgerGiven, Plays}
-use Rattle.drill.proofs.Scripts.{script-more}
+use Rattle.drill.specs.Played.{liveOf, worldOf, stagingNext, stagingAfter, Turn, Leaves, played, Plays}
+use Rattle.drill.proofs.Scripts.{world-more, loan-more}
 
-module _ (r : ℕ) (v₀ : List ℕ) where
+module _ (r : ℕ) (v₀ st₀ : List ℕ) where
   -- before the first event
-  pub begins : (st : List ℕ) (m : Moment) → m ≡ record { live = Off; settled = false } → worldOf m v₀ st ≡ after tagOf r (begin v₀) []
-  unfolding after
-  begins st m q = ap (λ (y : Moment). worldOf y v₀ st) q
+  pub begins : (m : Moment) → m ≡ record { live = Off; settled = false } → Leaves r v₀ st₀ [] m v₀ st₀
+  unfolding after stagingAfter
+  begins m q = record { world = ap (λ (y : Moment). worldOf y v₀ st₀) q; staging = refl }
 
   -- one event more
-  module _ (n i : ℕ) (script v st v′ st′ : List ℕ) (m m′ : Moment) (before : worldOf m v st ≡ after tagOf r (begin v₀) (eventsUpTo n script i)) where
-    pub event-played : (k s b : ℕ) → worldOf m′ v′ st′ ≡ play tagOf r v (liveOf (m .live) st) (eventOf (length st) k s b)
+  module _ (n i : ℕ) (script v st v′ st′ : List ℕ) (m m′ : Moment) (before : Leaves r v₀ st₀ (eventsUpTo n script i) m v st) where
+    pub event-played : (k s b : ℕ) → Turn r v (liveOf (m .live) st) st (eventOf (length st) k s b) m′ v′ st′
         → length st ≡ n → k ≡ getD script (i * eventSize) 0 → s ≡ value (part script (i * eventSize + 1) 2) → b ≡ getD script (i * eventSize + 3) 0
-        → worldOf m′ v′ st′ ≡ after tagOf r (begin v₀) (eventsUpTo n script (i + 1))
-    event-played k s b turned en ek es eb =
+        → Leaves r v₀ st₀ (eventsUpTo n script (i + 1)) m′ v′ st′
+    event-played k s b turn en ek es eb =
         let is : eventOf (length st) k s b ≡ eventAt n script i = λ j. eventOf (en j) (ek j) (es j) (eb j) in
-        turned
-        ∙ ap (λ (x : Event). next tagOf r (worldOf m v st) x) is
-        ∙ ap (λ (w : World). next tagOf r w (eventAt n script i)) before
-        ∙ sym (script-more tagOf r (begin v₀) n i script)
+        record {
+          world = turn .world
+              ∙ ap (λ (x : Event). next tagOf r (worldOf m v st) x) is
+              ∙ ap (λ (w : World). next tagOf r w (eventAt n script i)) (before .world)
+              ∙ sym (world-more r (begin v₀) n i script);
+          staging = turn .staging
+              ∙ (λ j. stagingNext r (before .world j .medium) (before .world j .live) (before .staging j) (is j))
+              ∙ sym (loan-more r (begin v₀) n i script st₀);
+        }
 
 -- ---- a whole drill
 
-module _ (g : Layout) (script v st : List ℕ) (a : FormatAnswer) (v₁ : List ℕ) (made : record { answer = formatAnswer a; volume = v₁ } ≡ formatOf tagOf g v) where
-  answered : formatAnswer a ≡ formatOf tagOf g v .answer
-  answered = ap (λ (o : FormatResult). o .answer) made
+module _ (g : Layout) (script v st : List ℕ) where
+  abbrev start : World
+  start = begin (formatOf tagOf g v .volume)
 
-  left : v₁ ≡ formatOf tagOf g v .volume
-  left = ap (λ (o : FormatResult). o .volume) made
+  abbrev events : Verdict → List Event
+  events y = pick (isTaken y) (eventsOf (length st) script) []
 
-  same-volume : (r : Verdict) (x : Refusal ℕ) → formatBy (tagOf (g .width)) g v r .answer ≡ refused x → formatBy (tagOf (g .width)) g v r .volume ≡ v
-  same-volume (taken y) x e = absurd (refused-not-taken x y (sym e))
-  same-volume (refused r) x e = refl
+  Demand : List Event → Type 0
+  Demand es = after tagOf (g .reserved) start es .settled ≡ true → Agrees tagOf g (formatOf tagOf g v .volume) (lists.worldOf tagOf g v es) (lists.toldOf tagOf g v es)
 
-  kept : (x : Refusal ℕ) → formatOf tagOf g v .answer ≡ refused x → formatOf tagOf g v .volume ≡ v
-  unfolding formatOf
-  kept x e = same-volume (firstMet (formatRows g v) passed) x e
+  agreeing : (y : Verdict) → formatOf tagOf g v .answer ≡ y → Demand (events y)
+  unfolding Demand after
+  agreeing (taken x) e = demand3-sha256 g v e (eventsOf (length st) script)
+  agreeing (refused x) e = λ t. absurd (true≢false (sym t))
 
-  -- a refused format
-  pub not-played : (x : code.Refusal) (m : Moment) → a ≡ answers.Refused x → m ≡ record { live = Off; settled = false }
-      → Plays g script v st (record { format = a; last = m }) v₁ st
-  not-played x m e q =
-      let no : formatOf tagOf g v .answer ≡ refused (refusalOf x) = sym answered ∙ ap formatAnswer e in
-      record {
-        format = answered;
-        kept = λ y h. (q, left ∙ kept y h, refl);
-        world = λ h. absurd (refused-not-taken (refusalOf x) tt (sym no ∙ h));
-        agrees = λ h. absurd (refused-not-taken (refusalOf x) tt (sym no ∙ h));
-      }
+  module _ (a : FormatAnswer) (v₁ : List ℕ) (made : record { answer = formatAnswer a; volume = v₁ } ≡ formatOf tagOf g v) where
+    answered : formatAnswer a ≡ formatOf tagOf g v .answer
+    answered = ap (λ (o : FormatResult). o .answer) made
 
-  module _ (m : Moment) (v′ st′ : List ℕ) (f : a ≡ answers.Formatted)
-      (played : worldOf m v′ st′ ≡ after tagOf (g .reserved) (begin v₁) (eventsOf (length st) script)) where
-    formatted : formatOf tagOf g v .answer ≡ passed
-    formatted = sym answered ∙ ap formatAnswer f
-
-    world : worldOf m v′ st′ ≡ worldGiven g script v (length st)
-    world = played ∙ ap (λ (u : List ℕ). after tagOf (g .reserved) (begin u) (eventsOf (length st) script)) left
-
-    pub all-played : Plays g script v st (record { format = a; last = m }) v′ st′
-    all-played =
+    plays : (m : Moment) (v′ st′ : List ℕ) → Leaves (g .reserved) v₁ st (events (formatAnswer a)) m v′ st′ → Plays g script v st (record { format = a; last = m }) v′ st′
+    unfolding Demand
+    plays m v′ st′ l =
+        let world : worldOf m v′ st′ ≡ lists.worldOf tagOf g v (played g script v st) =
+        l .world ∙ (λ j. after tagOf (g .reserved) (begin (made j .volume)) (events (answered j))) in
         record {
           format = answered;
-          kept = λ y h. absurd (refused-not-taken y tt (sym h ∙ formatted));
-          world = λ h. world;
-          agrees = λ h t.
-              subst (λ (w : World). Agrees tagOf g (formatOf tagOf g v .volume) w (ledgerGiven g script v (length st))) (sym world)
-              (demand3-sha256 g v formatted (eventsOf (length st) script) (sym (ap (λ (w : World). w .settled) world) ∙ t));
+          leaves = record {
+            world = world;
+            staging = l .staging ∙ (λ j. stagingAfter (g .reserved) (begin (made j .volume)) st (events (answered j)));
+          };
+          agrees = λ t.
+              subst (λ (w : World). Agrees tagOf g (formatOf tagOf g v .volume) w (lists.toldOf tagOf g v (played g script v st))) (sym world)
+              (agreeing (formatOf tagOf g v .answer) refl (sym (ap (λ (w : World). w .settled) world) ∙ t));
         }
+
+    -- a refused format
+    pub not-played : (x : Refusal) (m : Moment) → a ≡ Refused x → m ≡ record { live = Off; settled = false } → Plays g script v st (record { format = a; last = m }) v₁ st
+    not-played x m e q =
+        plays m v₁ st (subst (λ (y : FormatAnswer). Leaves (g .reserved) v₁ st (events (formatAnswer y)) m v₁ st) (sym e) (begins (g .reserved) v₁ st m q))
+
+    pub all-played : (m : Moment) (v′ st′ : List ℕ) → a ≡ Formatted → Leaves (g .reserved) v₁ st (eventsOf (length st) script) m v′ st′
+        → Plays g script v st (record { format = a; last = m }) v′ st′
+    all-played m v′ st′ e l =
+        plays m v′ st′ (subst (λ (y : FormatAnswer). Leaves (g .reserved) v₁ st (events (formatAnswer y)) m v′ st′) (sym e) l)

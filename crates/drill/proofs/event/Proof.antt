@@ -1,5 +1,4 @@
 use borrow.Author.Needs.{needs}
-use Rattle.model.specs.Tag.{tagOf}
 use Rattle.drill.specs.Script.{eventOf}
 use Rattle.drill.proofs.Turns.{when-off, when-on}
 use lib.ListN.{length}
@@ -10,13 +9,13 @@ use Rattle.drill.proofs.event.Tie as tie
 returns : tie.Need-returns
 returns c =
     let a = c .before .before .before .before .before .before .before .before .before .args in
-    when-off _ tagOf (a .r) (a .v .now) (a .st .now) (eventOf (length (a .st .now)) (a .kind) (a .sector) (a .fill)) (a .live) (c .before .before .before .before .before .enum-told .given .1) (c .before .before .event-off .ensures)
+    when-off (a .r) (a .v .now) (a .st .now) (eventOf (length (a .st .now)) (a .kind) (a .sector) (a .fill)) (a .live) _ _ _ (c .before .before .before .before .before .enum-told .given .1) (c .before .before .event-off .ensures)
 
 -- src/lib.rt:110:1
 returns-2 : tie.Need-returns-2
 returns-2 c =
     let a = c .before .before .before .before .before .before .before .before .before .before .before .before .args in
-    when-on _ tagOf (a .r) (a .v .now) (a .st .now) (eventOf (length (a .st .now)) (a .kind) (a .sector) (a .fill)) (a .live) _ (c .before .before .before .before .before .before .before .before .live .given .1) (c .before .before .before .before .event-on .ensures)
+    when-on (a .r) (a .v .now) (a .st .now) (eventOf (length (a .st .now)) (a .kind) (a .sector) (a .fill)) (a .live) _ _ _ _ (c .before .before .before .before .before .before .before .before .live .given .1) (c .before .before .before .before .event-on .ensures)
 
 pub event-spec : {M : Type 1} → statement M
 event-spec =

@@ -1,19 +1,17 @@
 use borrow.Author.Needs.{needs}
-use Rattle.model.specs.Tag.{tagOf}
-use Rattle.model.specs.World.{begin, after}
 use Rattle.drill.specs.Script.{eventsUpTo}
-use Rattle.drill.specs.Played.{worldOf}
+use Rattle.drill.specs.Played.{Leaves}
 use Rattle.drill.proofs.Worlds.{begins, event-played}
 use Prim.Native.Nat.{ℕ, _-_, _/_, _≤_}
 use native.Mathlib.Omega.{arith}
 use lib.ListN.{length}
-use mathlib.Core.Path.{_≡_, refl, ap, _∙_}
+use mathlib.Core.Path.{_≡_, refl, subst}
 use Rattle.drill.proofs.events.Statement.{statement}
 use Rattle.drill.proofs.events.Tie as tie
 
 abbrev Inv-loop : tie.InvT-loop
 Inv-loop r script v₀ st₀ count last₀ i₀ v st last i = (i ≤ count) × (count ≡ length script / 4) × (length v ≡ length v₀) × (length st ≡ length st₀)
-    × (worldOf last v st ≡ after tagOf r (begin v₀) (eventsUpTo (length st₀) script i))
+    × Leaves r v₀ st₀ (eventsUpTo (length st₀) script i) last v st
 
 abbrev μ-loop : tie.MeasureT-loop
 μ-loop r script v₀ st₀ count last₀ i₀ v st last i = count - i
@@ -34,7 +32,7 @@ loop-again c =
       turn .inv .1,
       omega (arith, called .kept .1 .1 .0, turn .inv .2),
       omega (arith, called .kept .1 .1 .1 .0, turn .inv .3),
-      event-played (a .r) (a .v .now) (length (a .st .now)) (turn .i) (a .script .now) (turn .v) (turn .st) _ _ (turn .last) (called .result) (turn .inv .4) _ _ _ (called .ensures) (turn .inv .3) refl (c .before .before .before .before .before .before .before .before .before .number .ensures .0) refl,
+      event-played (a .r) (a .v .now) (a .st .now) (length (a .st .now)) (turn .i) (a .script .now) (turn .v) (turn .st) _ _ (turn .last) (called .result) (turn .inv .4) _ _ _ (called .ensures) (turn .inv .3) refl (c .before .before .before .before .before .before .before .before .before .number .ensures .0) refl,
     )
 
 -- src/lib.rt:82:1
@@ -43,7 +41,7 @@ returns c =
     let a = c .before .before .before .before .before .before .args in
     let turn = c .before .loop in
     let all : turn .i ≡ length (a .script .now) / 4 = omega (arith, c .loop-test .left, turn .inv .0, turn .inv .1) in
-    turn .inv .4 ∙ ap (λ (m : ℕ). after tagOf (a .r) (begin (a .v .now)) (eventsUpTo (length (a .st .now)) (a .script .now) m)) all
+    subst (λ (m : ℕ). Leaves (a .r) (a .v .now) (a .st .now) (eventsUpTo (length (a .st .now)) (a .script .now) m) (turn .last) (turn .v) (turn .st)) all (turn .inv .4)
 
 pub events-spec : {M : Type 1} → statement M
 events-spec =
