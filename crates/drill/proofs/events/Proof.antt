@@ -16,13 +16,13 @@ Inv-loop r script v₀ st₀ count last₀ i₀ v st last i = (i ≤ count) × (
 abbrev μ-loop : tie.MeasureT-loop
 μ-loop r script v₀ st₀ count last₀ i₀ v st last i = count - i
 
--- src/lib.rt:88:5
+-- src/lib.rt:97:5
 loop-holds : tie.Need-loop-holds Inv-loop μ-loop
 loop-holds c =
     let a = c .before .before .before .before .args in
     (omega arith, refl, refl, refl, begins (a .r) (a .v .now) (a .st .now) _ (c .at-rest .ensures))
 
--- src/lib.rt:88:5
+-- src/lib.rt:97:5
 loop-again : tie.Need-loop-again Inv-loop μ-loop
 loop-again c =
     let a = c .before .before .before .before .before .before .before .before .before .before .before .before .before .before .before .before .args in
@@ -35,7 +35,7 @@ loop-again c =
       event-played (a .r) (a .v .now) (a .st .now) (length (a .st .now)) (turn .i) (a .script .now) (turn .v) (turn .st) _ _ (turn .last) (called .result) (turn .inv .4) _ _ _ (called .ensures) (turn .inv .3) refl (c .before .before .before .before .before .before .before .before .before .number .ensures .0) refl,
     )
 
--- src/lib.rt:82:1
+-- src/lib.rt:91:1
 returns : tie.Need-returns Inv-loop μ-loop
 returns c =
     let a = c .before .before .before .before .before .before .args in

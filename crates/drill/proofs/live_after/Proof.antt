@@ -6,12 +6,12 @@ use Rattle.model.specs.declared.OpenAnswer.{OpenAnswer}
 use Rattle.drill.proofs.live_after.Statement.{statement}
 use Rattle.drill.proofs.live_after.Tie as tie
 
--- src/lib.rt:142:1
+-- src/lib.rt:174:1
 returns : tie.Need-returns
 returns c =
     λ st. sym (ap (λ (a : OpenAnswer). openLive st (openAnswer a)) (c .before .a .given .1))
 
--- src/lib.rt:142:1
+-- src/lib.rt:174:1
 returns-2 : tie.Need-returns-2
 returns-2 c =
     λ st. sym (ap (λ (a : OpenAnswer). openLive st (openAnswer a)) (c .enum-told .given .1))

@@ -6,12 +6,12 @@ use Rattle.model.specs.declared.OpenAnswer.{OpenAnswer}
 use Rattle.drill.proofs.nothing_to_come.Statement.{statement}
 use Rattle.drill.proofs.nothing_to_come.Tie as tie
 
--- src/lib.rt:152:1
+-- src/lib.rt:184:1
 returns : tie.Need-returns
 returns c =
     sym (ap (λ (a : OpenAnswer). openSettles (openAnswer a)) (c .before .a .given .1))
 
--- src/lib.rt:152:1
+-- src/lib.rt:184:1
 returns-2 : tie.Need-returns-2
 returns-2 c =
     sym (ap (λ (a : OpenAnswer). openSettles (openAnswer a)) (c .enum-told .given .1))
