@@ -1,70 +1,64 @@
--- The events of a script: which each kind is, and what it does to a world. Then the whole list, event by event.
+-- The events of a script: which kinds change nothing. Then the whole list, event by event.
 use Prim.Native.Nat.{ℕ, _+_}
-use mathlib.Core.Bool.{Bool, true, false}
+use mathlib.Core.Bool.{true}
 use mathlib.Core.List.{List, [], _∷_, _++_}
 use mathlib.Core.Logic.{_≢_}
-use mathlib.Core.Path.{_≡_, refl, ap}
+use mathlib.Core.Path.{_≡_, refl}
 use native.Mathlib.Numerals.{add-one}
 use lib.ListN.{replicate}
 use lib.Dec.{eqb}
-use borrow.Author.Tests.{ne-eqb}
-use Rattle.octets.specs.Choice.{firstMet}
+use borrow.Author.Tests.{eqb-true}
 use Rattle.octets.specs.Sectors.{sectorSize}
-use Rattle.model.specs.Tag.{Tag}
-use Rattle.model.specs.World.{Event, aCut, anOpen, aWrite, aFlush, aStep, aRead, off, World, unmoved, play, next, after}
-use Rattle.drill.specs.Script.{eventOf, eventAt, eventsUpTo}
+use Rattle.model.specs.Tag.{tagOf}
+use Rattle.model.specs.World.{Event, aRead, Live, off, on, World, unmoved, play, next, after}
+use Rattle.model.specs.declared.State.{State}
+use Rattle.drill.specs.Script.{eventRows, eventOf, eventAt, eventsUpTo}
+use Rattle.drill.specs.Played.{stagingNext, stagingAfter}
+use Rattle.drill.proofs.Rows.{each}
 
--- ---- the kinds
+-- ---- events that change nothing
 
-module _ (n s b : ℕ) where
-  -- a kind that is a number below 5
-  pub kind-of : (k c : ℕ) → k ≡ c → eventOf n k s b ≡ eventOf n c s b
-  kind-of k c e = ap (λ (x : ℕ). eventOf n x s b) e
+abbrev Still : ℕ → List ℕ → Live → List ℕ → Event → Type 0
+Still r v x st e = (play tagOf r v x e ≡ unmoved v x) × (stagingNext r v x st e ≡ st)
 
-  pub cut-of : (k : ℕ) → k ≡ 0 → eventOf n k s b ≡ aCut
+module _ (r n k s b : ℕ) (v st : List ℕ) where
+  not-kind : {A : Type 0} (c : ℕ) → k ≢ c → eqb k c ≡ true → A
+  not-kind c ne e = absurd (ne (eqb-true k c e))
+
+  -- while nothing is live, all but opens
+  pub still-off : k ≢ 1 → k ≢ 6 → Still r v off st (eventOf n k s b)
   unfolding eventOf
-  cut-of k e = ap (λ (x : ℕ). eventOf n x s b) e
+  still-off c d =
+      each (Still r v off st) (eventRows n k s b) (aRead s (replicate sectorSize b))
+      (λ e. (refl, refl), (not-kind 1 c, (λ e. (refl, refl), (λ e. (refl, refl), (λ e. (refl, refl), (not-kind 6 d, (λ e. (refl, refl), (λ e. (refl, refl), tt))))))))
+      (refl, refl)
 
-  pub open-of : (k : ℕ) → k ≡ 1 → eventOf n k s b ≡ anOpen (replicate n b)
+  -- while a state is live, opens and reads
+  pub still-on : (x : State) → k ≢ 0 → k ≢ 2 → k ≢ 3 → k ≢ 4 → k ≢ 7 → Still r v (on x st) st (eventOf n k s b)
   unfolding eventOf
-  open-of k e = ap (λ (x : ℕ). eventOf n x s b) e
-
-  pub write-of : (k : ℕ) → k ≡ 2 → eventOf n k s b ≡ aWrite s (replicate sectorSize b)
-  unfolding eventOf
-  write-of k e = ap (λ (x : ℕ). eventOf n x s b) e
-
-  pub flush-of : (k : ℕ) → k ≡ 3 → eventOf n k s b ≡ aFlush
-  unfolding eventOf
-  flush-of k e = ap (λ (x : ℕ). eventOf n x s b) e
-
-  pub step-of : (k : ℕ) → k ≡ 4 → eventOf n k s b ≡ aStep
-  unfolding eventOf
-  step-of k e = ap (λ (x : ℕ). eventOf n x s b) e
-
-  pub read-of : (k : ℕ) → k ≢ 0 → k ≢ 1 → k ≢ 2 → k ≢ 3 → k ≢ 4 → eventOf n k s b ≡ aRead s (replicate sectorSize b)
-  unfolding eventOf
-  read-of k a c d e f = rw (ne-eqb k 0 a, ne-eqb k 1 c, ne-eqb k 2 d, ne-eqb k 3 e, ne-eqb k 4 f)
-
-  -- while nothing is live, an event that is no open changes nothing
-  pub nothing-live : (tag : Tag) (r k : ℕ) (v : List ℕ) → k ≢ 1 → play tag r v off (eventOf n k s b) ≡ unmoved v off
-  unfolding eventOf
-  nothing-live tag r k v e = rw (ne-eqb k 1 e) (go (eqb k 0) (eqb k 2) (eqb k 3) (eqb k 4))
-    where
-      go : (c d f g : Bool) → play tag r v off (firstMet ((c, aCut) ∷ (false, anOpen (replicate n b)) ∷ (d, aWrite s (replicate sectorSize b)) ∷ (f, aFlush) ∷ (g, aStep) ∷ []) (aRead s (replicate sectorSize b))) ≡ unmoved v off
-      go true d f g = refl
-      go false true f g = refl
-      go false false true g = refl
-      go false false false true = refl
-      go false false false false = refl
+  still-on x c d f h i =
+      each (Still r v (on x st) st) (eventRows n k s b) (aRead s (replicate sectorSize b))
+      (not-kind 0 c, (λ e. (refl, refl), (not-kind 2 d, (not-kind 3 f, (not-kind 4 h, (λ e. (refl, refl), (not-kind 7 i, (λ e. (refl, refl), tt))))))))
+      (refl, refl)
 
 -- ---- one event more
 
-module _ (tag : Tag) (r : ℕ) where
-  pub after-more : (w : World) (es : List Event) (e : Event) → after tag r w (es ++ (e ∷ [])) ≡ next tag r (after tag r w es) e
+module _ (r : ℕ) where
+  after-more : (w : World) (es : List Event) (e : Event) → after tagOf r w (es ++ (e ∷ [])) ≡ next tagOf r (after tagOf r w es) e
   unfolding after
   after-more w [] e = refl
-  after-more w (x ∷ es) e = after-more (next tag r w x) es e
+  after-more w (x ∷ es) e = after-more (next tagOf r w x) es e
 
-  pub script-more : (w : World) (n i : ℕ) (script : List ℕ)
-      → after tag r w (eventsUpTo n script (i + 1)) ≡ next tag r (after tag r w (eventsUpTo n script i)) (eventAt n script i)
-  script-more w n i script = rw add-one (after-more w (eventsUpTo n script i) (eventAt n script i))
+  staging-more : (w : World) (st : List ℕ) (es : List Event) (e : Event)
+      → stagingAfter r w st (es ++ (e ∷ [])) ≡ stagingNext r (after tagOf r w es .medium) (after tagOf r w es .live) (stagingAfter r w st es) e
+  unfolding after stagingAfter
+  staging-more w st [] e = refl
+  staging-more w st (x ∷ es) e = staging-more (next tagOf r w x) (stagingNext r (w .medium) (w .live) st x) es e
+
+  module _ (w : World) (n i : ℕ) (script : List ℕ) where
+    pub world-more : after tagOf r w (eventsUpTo n script (i + 1)) ≡ next tagOf r (after tagOf r w (eventsUpTo n script i)) (eventAt n script i)
+    world-more = rw add-one (after-more w (eventsUpTo n script i) (eventAt n script i))
+
+    pub loan-more : (st : List ℕ) → stagingAfter r w st (eventsUpTo n script (i + 1))
+        ≡ stagingNext r (after tagOf r w (eventsUpTo n script i) .medium) (after tagOf r w (eventsUpTo n script i) .live) (stagingAfter r w st (eventsUpTo n script i)) (eventAt n script i)
+    loan-more st = rw add-one (staging-more w st (eventsUpTo n script i) (eventAt n script i))

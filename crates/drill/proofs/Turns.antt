@@ -1,97 +1,173 @@
 -- What each event leads to: one law to a return.
-use Prim.Native.Nat.{ℕ}
+use Prim.Native.Nat.{ℕ, _≤_, _<_}
 use mathlib.Core.Bool.{Bool, false}
-use mathlib.Core.List.{List}
+use mathlib.Core.List.{List, _++_}
 use mathlib.Core.Logic.{_≢_}
 use mathlib.Core.Path.{_≡_, refl, sym, ap, _∙_, subst}
-use lib.ListN.{length, replicate, length-replicate}
+use native.Mathlib.Nat.{zero-add}
+use native.Mathlib.Omega.{arith}
+use lib.ListN.{length, take, drop, replicate, length-replicate, length-take}
+use lib.Seq.{length-take-le, take-all}
 use Rattle.octets.specs.Parts.{patch}
 use Rattle.octets.specs.Sectors.{sectorSize}
-use Rattle.octets.proofs.Parts.{patch-all}
-use Rattle.model.specs.Tag.{Tag, tagOf}
-use Rattle.model.specs.Open.{openOf}
-use Rattle.model.specs.Write.{writeOf}
+use Rattle.octets.proofs.Parts.{patch-all, take-replicate}
+use Rattle.model.specs.Refusal.{openAnswer, stepAnswer}
+use Rattle.model.specs.Tag.{tagOf}
+use Rattle.model.specs.Open.{OpenResult, openOf}
+use Rattle.model.specs.Write.{WriteResult, writeOf}
 use Rattle.model.specs.Flush.{flushOf}
 use Rattle.model.specs.Step.{StepResult, stepOf}
-use Rattle.model.specs.World.{Event, off, on, World, play, openWorld, writeWorld, flushWorld, stepWorld, stepSettles, openSettles}
+use Rattle.model.specs.World as lists
+use Rattle.model.specs.World.{Event, off, on, World, openLive, openWorld, writeWorld, flushWorld, stepWorld, stepSettles, openSettles}
 use Rattle.model.specs.declared.Flushed.{Flushed}
 use Rattle.model.specs.declared.OpenAnswer.{OpenAnswer}
-use Rattle.model.specs.declared.OpenAnswer.the-variants.{Opened, Refused}
 use Rattle.model.specs.declared.State.{State}
 use Rattle.model.specs.declared.Stepped.{Stepped}
 use Rattle.model.specs.declared.Written.{Written}
-use Rattle.volume_batch.specs.Results.{written}
+use Rattle.volume_batch.specs.Results.{written, flushed}
 use Rattle.volume_step.specs.Results.{Leaves}
 use Rattle.drill.specs.declared.Live.{Live}
 use Rattle.drill.specs.declared.Live.the-variants.{Off, On}
 use Rattle.drill.specs.declared.Moment.{Moment}
-use Rattle.drill.specs.Script.{eventOf}
-use Rattle.drill.specs.Played.{liveOf, worldOf, liveAfter, volumeTag, tagFor}
-use Rattle.drill.proofs.Scripts.{cut-of, open-of, write-of, flush-of, step-of, read-of, nothing-live}
+use Rattle.drill.specs.Script.{shortSize, eventOf}
+use Rattle.drill.specs.Played.{liveOf, worldOf, stagingIn, Turn}
+use Rattle.drill.proofs.Opens.{open-leaves, few-refused, few-left}
+use Rattle.drill.proofs.Scripts.{still-off, still-on}
 
-module _ (tag : Tag) (r n k s b : ℕ) (v : List ℕ) where
+-- the staging loan, by the world with it
+loan-of : (m : Moment) (v st : List ℕ) {w : World} → worldOf m v st ≡ w → st ≡ stagingIn (w .live) st
+loan-of m v st e = go (m .live) ∙ ap (λ (y : World). stagingIn (y .live) st) e
+  where
+    go : (x : Live) → st ≡ stagingIn (liveOf x st) st
+    go Off = refl
+    go (On s) = refl
+
+module _ (r n k s b : ℕ) (v : List ℕ) where
+  -- a kind by its number
+  as-kind : (c : ℕ) (x : lists.Live) (st : List ℕ) (m : Moment) (v′ st′ : List ℕ) → k ≡ c → Turn r v x st (eventOf n c s b) m v′ st′ → Turn r v x st (eventOf n k s b) m v′ st′
+  as-kind c x st m v′ st′ e t = subst (λ (y : ℕ). Turn r v x st (eventOf n y s b) m v′ st′) (sym e) t
+
   -- ---- nothing is live
 
-  pub stays-off : (st : List ℕ) (m : Moment) → m ≡ record { live = Off; settled = false } → k ≢ 1 → worldOf m v st ≡ play tag r v off (eventOf n k s b)
-  stays-off st m e o = ap (λ (x : Moment). worldOf x v st) e ∙ sym (nothing-live n s b tag r k v o)
+  module _ (st : List ℕ) (m : Moment) (q : m ≡ record { live = Off; settled = false }) where
+    pub stays-off : k ≢ 1 → k ≢ 6 → Turn r v off st (eventOf n k s b) m v st
+    stays-off c d =
+        let still = still-off r n k s b v st c d in
+        record { world = ap (λ (x : Moment). worldOf x v st) q ∙ sym (still .0); staging = sym (still .1) }
 
-  module _ (st filled left : List ℕ) (sized : n ≡ length st) (fill : filled ≡ patch st 0 (replicate n b)) (o : k ≡ 1) (a : OpenAnswer)
-      (gives : record { answer = a; staging = left } ≡ openOf tag r v filled) where
-    found : openWorld v (record { answer = a; staging = left }) ≡ play tag r v off (eventOf n k s b)
-    found =
-        let all : filled ≡ replicate n b = fill ∙ patch-all st (replicate n b) (length-replicate n b ∙ sized) in
-        ap (openWorld v) (gives ∙ ap (openOf tag r v) all) ∙ sym (ap (play tag r v off) (open-of n s b k o))
+    few : (m : ℕ) → m < sectorSize → length (take m (replicate n b)) < sectorSize
+    few m h = omega (arith, length-take m (replicate n b), h)
 
-    moment : (x : OpenAnswer) → worldOf (record { live = liveAfter x; settled = openSettles x }) v left ≡ openWorld v (record { answer = x; staging = left })
-    moment (Opened x stores) = refl
-    moment (Refused x) = refl
+    pub opens-short : (left : List ℕ) → left ≡ patch st 0 (take shortSize (replicate n b)) → k ≡ 6
+        → Turn r v off st (eventOf n k s b) m v left
+    unfolding eventOf
+    opens-short left l e =
+        let no = few-refused tagOf r v (take shortSize (replicate n b)) (few shortSize (omega arith)) in
+        as-kind 6 off st m v left e
+        (record {
+          world = ap (λ (x : Moment). worldOf x v left) q ∙ sym no;
+          staging = l ∙ sym (ap (λ (w : World). stagingIn (w .live) (patch st 0 (take shortSize (replicate n b)))) no);
+        })
 
-    pub opens : (l : Live) (t : Bool) → l ≡ liveAfter a → t ≡ openSettles a → worldOf (record { live = l; settled = t }) v left ≡ play tag r v off (eventOf n k s b)
-    opens l t el et = ap (λ (y : Live). worldOf (record { live = y; settled = t }) v left) el ∙ ap (λ (y : Bool). worldOf (record { live = liveAfter a; settled = y }) v left) et ∙ moment a ∙ found
+  module _ (st left : List ℕ) (sized : n ≡ length st) (a : OpenAnswer) (gives : record { answer = openAnswer a; staging = left } ≡ openOf tagOf r v (replicate n b)) where
+    pub opens : (l : Live) (t : Bool) → ((y : List ℕ) → liveOf l y ≡ openLive y (openAnswer a)) → t ≡ openSettles (openAnswer a) → k ≡ 1
+        → Turn r v off st (eventOf n k s b) (record { live = l; settled = t }) v left
+    unfolding eventOf
+    opens l t el et e =
+        let all : patch st 0 (replicate n b) ≡ replicate n b = patch-all st (replicate n b) (length-replicate n b ∙ sized) in
+        as-kind 1 off st (record { live = l; settled = t }) v left e
+        (record {
+          world = ap (λ (y : lists.Live). record { medium = v; live = y; settled = t }) (el left)
+              ∙ ap (λ (y : Bool). record { medium = v; live = openLive left (openAnswer a); settled = y }) et
+              ∙ ap (openWorld v) gives;
+          staging = ap (λ (o : OpenResult). o .staging) gives
+              ∙ open-leaves tagOf r v (replicate n b)
+              ∙ ap (stagingIn (openWorld v (openOf tagOf r v (replicate n b)) .live)) (sym all);
+        })
 
   -- ---- a state is live
 
   module _ (x : State) (st : List ℕ) where
-    pub cuts : (m : Moment) → m ≡ record { live = Off; settled = false } → k ≡ 0 → worldOf m v st ≡ play tag r v (on x st) (eventOf n k s b)
-    cuts m q e = ap (λ (y : Moment). worldOf y v st) q ∙ sym (ap (play tag r v (on x st)) (cut-of n s b k e))
+    pub cuts : (m : Moment) → m ≡ record { live = Off; settled = false } → k ≡ 0 → Turn r v (on x st) st (eventOf n k s b) m v st
+    unfolding eventOf
+    cuts m q e = as-kind 0 (on x st) st m v st e (record { world = ap (λ (y : Moment). worldOf y v st) q; staging = refl })
 
-    pub no-open : (m : Moment) → m ≡ record { live = On x; settled = false } → k ≡ 1 → worldOf m v st ≡ play tag r v (on x st) (eventOf n k s b)
-    no-open m q e = ap (λ (y : Moment). worldOf y v st) q ∙ sym (ap (play tag r v (on x st)) (open-of n s b k e))
+    pub writes : (m : Moment) (left : List ℕ) → ((u : List ℕ) → worldOf m u left ≡ writeWorld u (writeOf tagOf x st s (replicate sectorSize b)))
+        → k ≡ 2 → Turn r v (on x st) st (eventOf n k s b) m v left
+    unfolding eventOf
+    writes m left w e = as-kind 2 (on x st) st m v left e (record { world = w v; staging = loan-of m v left (w v) })
 
-    pub writes : (w : Written) (left : List ℕ) (m : Moment) → m ≡ record { live = On (w .state); settled = false }
-        → written w left ≡ writeOf tag x st s (replicate sectorSize b) → k ≡ 2 → worldOf m v left ≡ play tag r v (on x st) (eventOf n k s b)
-    writes w left m q o e =
-        ap (λ (y : Moment). worldOf y v left) q ∙ ap (writeWorld v) o ∙ sym (ap (play tag r v (on x st)) (write-of n s b k e))
+    pub writes-short : (m : Moment) (left : List ℕ) → ((u : List ℕ) → worldOf m u left ≡ writeWorld u (writeOf tagOf x st s (replicate shortSize b)))
+        → k ≡ 7 → Turn r v (on x st) st (eventOf n k s b) m v left
+    unfolding eventOf
+    writes-short m left w e = as-kind 7 (on x st) st m v left e (record { world = w v; staging = loan-of m v left (w v) })
 
-    pub flushes : (f : Flushed) (m : Moment) → m ≡ record { live = On (f .state); settled = false } → f ≡ flushOf x → k ≡ 3
-        → worldOf m v st ≡ play tag r v (on x st) (eventOf n k s b)
-    flushes f m q o e = ap (λ (y : Moment). worldOf y v st) q ∙ ap (flushWorld v st) o ∙ sym (ap (play tag r v (on x st)) (flush-of n s b k e))
+    pub flushes : (f : Flushed) (m : Moment) → m ≡ record { live = On (f .state); settled = false } → flushed f ≡ flushOf x → k ≡ 3
+        → Turn r v (on x st) st (eventOf n k s b) m v st
+    unfolding eventOf
+    flushes f m q o e = as-kind 3 (on x st) st m v st e (record { world = ap (λ (y : Moment). worldOf y v st) q ∙ ap (flushWorld v st) o; staging = refl })
 
-    pub steps : (v′ left : List ℕ) (m : Moment) → worldOf m v′ left ≡ stepWorld v (stepOf x v st) → k ≡ 4
-        → worldOf m v′ left ≡ play tag r v (on x st) (eventOf n k s b)
-    steps v′ left m q e = q ∙ sym (ap (play tag r v (on x st)) (step-of n s b k e))
+    pub steps : (m : Moment) (v′ left : List ℕ) → worldOf m v′ left ≡ stepWorld v (stepOf x v st) → k ≡ 4
+        → Turn r v (on x st) st (eventOf n k s b) m v′ left
+    unfolding eventOf
+    steps m v′ left w e = as-kind 4 (on x st) st m v′ left e (record { world = w; staging = loan-of m v′ left w })
 
-    pub reads : (m : Moment) → m ≡ record { live = On x; settled = false } → k ≢ 0 → k ≢ 1 → k ≢ 2 → k ≢ 3 → k ≢ 4
-        → worldOf m v st ≡ play tag r v (on x st) (eventOf n k s b)
-    reads m q a c d e f = ap (λ (y : Moment). worldOf y v st) q ∙ sym (ap (play tag r v (on x st)) (read-of n s b k a c d e f))
+    pub still : (m : Moment) → m ≡ record { live = On x; settled = false } → k ≢ 0 → k ≢ 2 → k ≢ 7 → k ≢ 3 → k ≢ 4
+        → Turn r v (on x st) st (eventOf n k s b) m v st
+    still m q c d e f h =
+        let same = still-on r n k s b v st x c d f h e in
+        record { world = ap (λ (y : Moment). worldOf y v st) q ∙ sym (same .0); staging = sym (same .1) }
 
--- a step, as it is handed back
-pub stepped : (v v′ left : List ℕ) (o : StepResult) (r : Stepped) (t : Bool) → Leaves v o r v′ left → t ≡ stepSettles (r .answer)
+-- what write handed back
+pub wrote : (w : Written) (m : Moment) (left : List ℕ) (o : WriteResult) → m ≡ record { live = On (w .state); settled = false } → written w left ≡ o
+    → (v : List ℕ) → worldOf m v left ≡ writeWorld v o
+wrote w m left o q e v = ap (λ (y : Moment). worldOf y v left) q ∙ ap (writeWorld v) e
+
+-- what step handed back
+pub stepped : (v v′ left : List ℕ) (o : StepResult) (r : Stepped) (t : Bool) → Leaves v o r v′ left → t ≡ stepSettles (stepAnswer (r .answer))
     → worldOf (record { live = On (r .state); settled = t }) v′ left ≡ stepWorld v o
 stepped v v′ left o r t l e = ap (λ (y : Bool). worldOf (record { live = On (r .state); settled = y }) v′ left) e ∙ handed
   where
-    handed : worldOf (record { live = On (r .state); settled = stepSettles (r .answer) }) v′ left ≡ stepWorld v o
+    handed : worldOf (record { live = On (r .state); settled = stepSettles (stepAnswer (r .answer)) }) v′ left ≡ stepWorld v o
     handed = λ i. record {
       medium = l .volume i;
-      live = on (l .returned i .state) (l .staging i);
-      settled = stepSettles (l .returned i .answer);
+      live = on (l .state i) (l .staging i);
+      settled = stepSettles (l .answer i);
     }
+
+-- ---- opens with a filled loan
+
+module _ (r b : ℕ) (v st : List ℕ) where
+  -- the whole loan
+  pub filled-whole : (a : OpenAnswer) (full left : List ℕ) → full ≡ patch st 0 (replicate (length st) b) → record { answer = openAnswer a; staging = left } ≡ openOf tagOf r v full
+      → record { answer = openAnswer a; staging = left } ≡ openOf tagOf r v (replicate (length st) b)
+  filled-whole a full left f o = o ∙ ap (openOf tagOf r v) (f ∙ patch-all st (replicate (length st) b) (length-replicate (length st) b))
+
+  -- fewer bytes than a sector has, in a loan that has no more, or in one that does
+  module _ (a : OpenAnswer) (left : List ℕ) where
+    pub short-whole : length st < shortSize → record { answer = openAnswer a; staging = left } ≡ openOf tagOf r v (replicate (length st) b)
+        → left ≡ patch st 0 (take shortSize (replicate (length st) b))
+    short-whole h o =
+        let n : length (replicate (length st) b) ≡ length st = length-replicate (length st) b in
+        let few : length (replicate (length st) b) < sectorSize = omega (arith, n, h) in
+        ap (λ (y : OpenResult). y .staging) o
+        ∙ few-left tagOf r v (replicate (length st) b) few
+        ∙ sym (ap (patch st 0) (take-all shortSize (replicate (length st) b) (omega (arith, n, h))) ∙ patch-all st (replicate (length st) b) n)
+
+    pub short-part : (n : ℕ) → n ≤ length st → n < sectorSize → record { answer = openAnswer a; staging = left } ≡ openOf tagOf r v (replicate (length (take n st)) b)
+        → left ++ drop n st ≡ patch st 0 (take n (replicate (length st) b))
+    short-part n h f o =
+        let few : length (replicate n b) < sectorSize = omega (arith, length-replicate n b, f) in
+        let is : left ≡ replicate n b =
+        ap (λ (y : OpenResult). y .staging) (o ∙ ap (λ (m : ℕ). openOf tagOf r v (replicate m b)) (length-take-le n st h))
+        ∙ few-left tagOf r v (replicate n b) few in
+        rw (is, take-replicate n (length st) b h, length-replicate n b, zero-add n) refl
 
 -- ---- what is live, by cases
 
-module _ (w : World) (r : ℕ) (v st : List ℕ) (e : Event) (x : Live) where
-  pub when-off : x ≡ Off → w ≡ play (volumeTag r v) r v off e → w ≡ play (tagFor r x v) r v (liveOf x st) e
-  when-off q h = subst (λ (y : Live). w ≡ play (tagFor r y v) r v (liveOf y st) e) (sym q) h
+module _ (r : ℕ) (v st : List ℕ) (e : Event) (x : Live) (m : Moment) (v′ st′ : List ℕ) where
+  pub when-off : x ≡ Off → Turn r v off st e m v′ st′ → Turn r v (liveOf x st) st e m v′ st′
+  when-off q h = subst (λ (y : Live). Turn r v (liveOf y st) st e m v′ st′) (sym q) h
 
-  pub when-on : (s : State) → x ≡ On s → w ≡ play (tagOf (s .layout .width)) r v (on s st) e → w ≡ play (tagFor r x v) r v (liveOf x st) e
-  when-on s q h = subst (λ (y : Live). w ≡ play (tagFor r y v) r v (liveOf y st) e) (sym q) h
+  pub when-on : (s : State) → x ≡ On s → Turn r v (on s st) st e m v′ st′ → Turn r v (liveOf x st) st e m v′ st′
+  when-on s q h = subst (λ (y : Live). Turn r v (liveOf y st) st e m v′ st′) (sym q) h

@@ -1,30 +1,31 @@
--- What a drill leaves: the world of the model, and with it demand 3.
+-- What a drill hands back and leaves in its two loans. The world of the model has the volume and, while a state is live, its staging; demand 3 speaks
+-- of that world. The staging loan has bytes also while nothing is live.
 --
--- liveOf x st        : what is live, with the staging loan st
--- worldOf m v st     : the world with the volume v
--- liveAfter a        : what is live after an open that answered a
--- volumeTag, tagFor  : the tag function that the next call uses
--- worldGiven ..      : the world that the definitions give; ledgerGiven: the ledger of what came to pass in it
--- Plays ..           : the drill of a script on the volume v with the staging loan st handed back p, and left the volume v′ and the staging loan st′.
---                      What staging holds while nothing is live is left open: a cut loses it.
+-- liveOf x st             : what is live, with the staging loan st
+-- worldOf m v st          : the world with the volume v
+-- filled e st             : the staging loan st as the call of e finds it: an open fills the first bytes, those that it is lent
+-- stagingIn x st          : the staging loan after an event that found it as st and left x live
+-- stagingNext r v x st e  : the staging loan st after the event e, on the volume v with x live
+-- stagingAfter r w st es  : the same after the events es, from the world w
+-- Turn ..                 : the event e, on the volume v with x live and the staging loan st, led to m, and left v′ and st′ in the loans
+-- Leaves ..               : the events es, with nothing live at first, did so
+-- played ..               : the events of a drill
+-- Plays ..                : the drill of a script on the volume v with the staging loan st handed back p, and left v′ and st′ in the loans
 use Prim.Native.Nat.{ℕ}
-use mathlib.Core.Bool.{true, false}
-use mathlib.Core.List.{List}
+use mathlib.Core.Bool.{true}
+use mathlib.Core.List.{List, [], _∷_}
 use mathlib.Core.Path.{_≡_}
 use lib.ListN.{length}
-use Rattle.model.specs.Superblock.{superblockAt, layoutIn}
-use Rattle.model.specs.Tag.{Tag, tagOf}
+use Rattle.octets.specs.Answer.{isTaken}
+use Rattle.octets.specs.Choice.{pick}
+use Rattle.octets.specs.Parts.{patch}
+use Rattle.model.specs.Tag.{tagOf}
+use Rattle.model.specs.Refusal.{formatAnswer}
 use Rattle.model.specs.Format.{formatOf}
-use Rattle.model.specs.World.{Live, off, on, World}
+use Rattle.model.specs.World.{Event, aCut, anOpen, aWrite, aFlush, aStep, aRead, Live, off, on, World, begin, play, next, after}
 use Rattle.model.specs.Guarantees as lists
 use Rattle.model.specs.Demand3.{Agrees}
-use Rattle.model.specs.Ledger.{Ledger}
-use Rattle.model.specs.declared.FormatAnswer.the-variants.{Formatted, Refused}
 use Rattle.model.specs.declared.Layout.{Layout}
-use Rattle.model.specs.declared.OpenAnswer.{OpenAnswer}
-use Rattle.model.specs.declared.OpenAnswer.the-variants.{Opened}
-use Rattle.model.specs.declared.OpenAnswer.the-variants as opening
-use Rattle.model.specs.declared.Refusal.{Refusal}
 use Rattle.drill.specs.declared.Live as code
 use Rattle.drill.specs.declared.Live.the-variants.{Off, On}
 use Rattle.drill.specs.declared.Moment.{Moment}
@@ -38,35 +39,47 @@ liveOf (On s) st = on s st
 abbrev pub worldOf : Moment → List ℕ → List ℕ → World
 worldOf m v st = record { medium = v; live = liveOf (m .live) st; settled = m .settled }
 
--- what is live after an open
-abbrev pub liveAfter : OpenAnswer → code.Live
-liveAfter (Opened s n) = On s
-liveAfter (opening.Refused r) = Off
+-- ---- the staging loan
 
--- ---- the tag of the next call: that of the layout which the state has, or which an open finds
+abbrev pub filled : Event → List ℕ → List ℕ
+filled aCut st = st
+filled (anOpen staging) st = patch st 0 staging
+filled (aWrite n b) st = st
+filled aFlush st = st
+filled aStep st = st
+filled (aRead n loan) st = st
 
-abbrev pub volumeTag : ℕ → List ℕ → Tag
-volumeTag r v = tagOf (layoutIn r (superblockAt r v) .width)
+-- the staging of a live state is the whole loan; a refused open and a cut leave the bytes as they are
+abbrev pub stagingIn : Live → List ℕ → List ℕ
+stagingIn off st = st
+stagingIn (on s staging) st = staging
 
-abbrev pub tagFor : ℕ → code.Live → List ℕ → Tag
-tagFor r Off v = volumeTag r v
-tagFor r (On s) v = tagOf (s .layout .width)
+abbrev pub stagingNext : ℕ → List ℕ → Live → List ℕ → Event → List ℕ
+stagingNext r v x st e = stagingIn (play tagOf r v x e .live) (filled e st)
+
+unfoldable pub stagingAfter : ℕ → World → List ℕ → List Event → List ℕ
+stagingAfter r w st [] = st
+stagingAfter r w st (e ∷ es) = stagingAfter r (next tagOf r w e) (stagingNext r (w .medium) (w .live) st e) es
+
+-- ---- an event, and a list of them
+
+pub record Turn (r : ℕ) (v : List ℕ) (x : Live) (st : List ℕ) (e : Event) (m : Moment) (v′ st′ : List ℕ) : Type 0 where
+  pub world : worldOf m v′ st′ ≡ play tagOf r v x e
+  pub staging : st′ ≡ stagingNext r v x st e
+
+pub record Leaves (r : ℕ) (v st : List ℕ) (es : List Event) (m : Moment) (v′ st′ : List ℕ) : Type 0 where
+  pub world : worldOf m v′ st′ ≡ after tagOf r (begin v) es
+  pub staging : st′ ≡ stagingAfter r (begin v) st es
 
 -- ---- a whole drill
 
-module _ (g : Layout) (script v : List ℕ) where
-  -- the world that the definitions give for the script, on the volume as format left it
-  abbrev pub worldGiven : ℕ → World
-  worldGiven n = lists.worldOf (tagOf (g .width)) g v (eventsOf n script)
+module _ (g : Layout) (script v st : List ℕ) where
+  -- none where format is refused
+  abbrev pub played : List Event
+  played = pick (isTaken (formatOf tagOf g v .answer)) (eventsOf (length st) script) []
 
-  abbrev pub ledgerGiven : ℕ → Ledger
-  ledgerGiven n = lists.toldOf (tagOf (g .width)) g v (eventsOf n script)
-
-  pub record Plays (st : List ℕ) (p : Played) (v′ st′ : List ℕ) : Type 0 where
-    pub format : p .format ≡ formatOf (tagOf (g .width)) g v .answer
-    -- a refused format leaves everything as it was, and nothing is played
-    pub refused : (r : Refusal) → p .format ≡ Refused r → (p .last ≡ record { live = Off; settled = false }) × (v′ ≡ v) × (st′ ≡ st)
-    pub world : p .format ≡ Formatted → worldOf (p .last) v′ st′ ≡ worldGiven (length st)
+  pub record Plays (p : Played) (v′ st′ : List ℕ) : Type 0 where
+    pub format : formatAnswer (p .format) ≡ formatOf tagOf g v .answer
+    pub leaves : Leaves (g .reserved) (formatOf tagOf g v .volume) st played (p .last) v′ st′
     -- demand 3, of what ran
-    pub agrees : p .format ≡ Formatted → p .last .settled ≡ true
-        → Agrees (tagOf (g .width)) g (formatOf (tagOf (g .width)) g v .volume) (worldOf (p .last) v′ st′) (ledgerGiven (length st))
+    pub agrees : p .last .settled ≡ true → Agrees tagOf g (formatOf tagOf g v .volume) (worldOf (p .last) v′ st′) (lists.toldOf tagOf g v played)

@@ -2,6 +2,7 @@
 //
 // `play` leaves the world that the model's definitions give for the same list, so what demand 3 says of every list holds of what ran. A script is
 // bytes, four to an event: its kind, a logical sector (2 bytes, little-endian), and a byte that fills the loans of the call. Any bytes are one.
+// Which lists a script can write is in specs/Script.antt.
 use model::FormatAnswer;
 use model::Layout;
 use model::OpenAnswer;
@@ -11,17 +12,19 @@ ghost use Prim.Native.Nat.{ℕ};
 ghost use mathlib.Core.Bool.{false};
 ghost use mathlib.Core.List.{List};
 ghost use mathlib.Core.Path.{_≡_};
-ghost use lib.ListN.{length};
-ghost use Rattle.model.specs.declared.FormatAnswer.the-variants.{Formatted};
-ghost use Rattle.model.specs.Format.{formatOf};
+ghost use lib.ListN.{length, take, replicate};
+ghost use Rattle.octets.specs.Parts.{patch};
+ghost use Rattle.model.specs.Open.{openOf};
+ghost use Rattle.model.specs.Refusal.{openAnswer};
 ghost use Rattle.model.specs.Step.{stepOf};
 ghost use Rattle.model.specs.Tag.{tagOf};
 ghost use Rattle.model.specs.World.{off, on};
 ghost use Rattle.model.specs.World as lists;
-ghost use Rattle.drill.specs.Script.{eventOf};
-ghost use Rattle.drill.specs.Played.{liveOf, worldOf, liveAfter, tagFor, volumeTag, worldGiven, Plays};
+ghost use Rattle.model.specs.Write.{writeOf};
+ghost use Rattle.drill.specs.Script.{shortSize, eventOf, eventsOf};
+ghost use Rattle.drill.specs.Played.{liveOf, worldOf, Turn, Leaves, Plays};
 
-// The kinds of event; any other is a read.
+// The kinds of event; any other is a read. A short one is made with a loan of a wrong length.
 pub const CUT: u8 = 0;
 
 pub const OPEN: u8 = 1;
@@ -33,6 +36,15 @@ pub const FLUSH: u8 = 3;
 pub const STEP: u8 = 4;
 
 pub const READ: u8 = 5;
+
+pub const SHORT_OPEN: u8 = 6;
+
+pub const SHORT_WRITE: u8 = 7;
+
+pub const SHORT_READ: u8 = 8;
+
+// The bytes of a short loan, a byte less than a sector has: too few for any call.
+const SHORT_SIZE: usize = 511;
 
 // The bytes of an event.
 pub const EVENT_SIZE: usize = 4;
@@ -71,13 +83,13 @@ pub fn play(g: Layout, script: &[u8], v: &mut [u8], st: &mut [u8]) -> Played
     }
     Played {
         format: answer,
-        last: events(g, script, v, st),
+        last: events(g.reserved, script, v, st),
     }
 }
 
-// Plays the script on a volume as format left it.
-fn events(g: Layout, script: &[u8], v: &mut [u8], st: &mut [u8]) -> Moment
-    ensures { λ m. ⌜ ((u : List ℕ) → formatOf (tagOf (g .width)) g u .answer ≡ Formatted → now (v .entry) ≡ formatOf (tagOf (g .width)) g u .volume → worldOf m (now (v .exit)) (now (st .exit)) ≡ worldGiven g (now (script .entry)) u (length (now (st .entry)))) ⌝ }
+// Plays the script on a volume with r reserved sectors.
+fn events(r: usize, script: &[u8], v: &mut [u8], st: &mut [u8]) -> Moment
+    ensures { λ m. ⌜ Leaves r (now (v .entry)) (now (st .entry)) (eventsOf (length (now (st .entry))) (now (script .entry))) m (now (v .exit)) (now (st .exit)) ⌝ }
 {
     let count = script.len() / EVENT_SIZE;
     let mut last = at_rest(Live::Off);
@@ -86,7 +98,7 @@ fn events(g: Layout, script: &[u8], v: &mut [u8], st: &mut [u8]) -> Moment
         let live = last.live;
         let at = i * EVENT_SIZE;
         let sector = octets::number(script, at + 1, 2) as usize;
-        let next = event(g.reserved, live, v, st, script[at], sector, script[at + 3]);
+        let next = event(r, live, v, st, script[at], sector, script[at + 3]);
         last = next;
         i += 1;
     }
@@ -113,7 +125,7 @@ fn event(
     sector: usize,
     fill: u8,
 ) -> Moment
-    ensures { λ m. ⌜ worldOf m (now (v .exit)) (now (st .exit)) ≡ lists.play (tagFor r live (now (v .entry))) r (now (v .entry)) (liveOf live (now (st .entry))) (eventOf (length (now (st .entry))) kind sector fill) ⌝ }
+    ensures { λ m. ⌜ Turn r (now (v .entry)) (liveOf live (now (st .entry))) (now (st .entry)) (eventOf (length (now (st .entry))) kind sector fill) m (now (v .exit)) (now (st .exit)) ⌝ }
 {
     match live {
         Live::Off => event_off(r, v, st, kind, sector, fill),
@@ -123,21 +135,44 @@ fn event(
 
 // While nothing is live only an open is made.
 fn event_off(r: usize, v: &[u8], st: &mut [u8], kind: u8, sector: usize, fill: u8) -> Moment
-    ensures { λ m. ⌜ worldOf m (now (v .entry)) (now (st .exit)) ≡ lists.play (volumeTag r (now (v .entry))) r (now (v .entry)) off (eventOf (length (now (st .entry))) kind sector fill) ⌝ }
+    ensures { λ m. ⌜ Turn r (now (v .entry)) off (now (st .entry)) (eventOf (length (now (st .entry))) kind sector fill) m (now (v .entry)) (now (st .exit)) ⌝ }
 {
-    if kind != OPEN {
+    if kind == OPEN {
+        let answer = open_filled(r, v, st, fill);
+        return Moment {
+            live: live_after(answer),
+            settled: nothing_to_come(answer),
+        };
+    }
+    if kind == SHORT_OPEN {
+        short_open(r, v, st, fill);
         return at_rest(Live::Off);
     }
+    at_rest(Live::Off)
+}
+
+// An open whose staging is filled with a byte.
+fn open_filled(r: usize, v: &[u8], st: &mut [u8], fill: u8) -> OpenAnswer
+    ensures { λ a. ⌜ record { answer = openAnswer a; staging = now (st .exit) } ≡ openOf tagOf r (now (v .entry)) (replicate (length (now (st .entry))) fill) ⌝ }
+{
     octets::fill_at(st, 0, st.len(), fill);
-    let answer = volume::open::open(v, st, r);
-    Moment {
-        live: live_after(answer),
-        settled: nothing_to_come(answer),
+    volume::open::open(v, st, r)
+}
+
+// An open that is lent the first bytes of the loan, too few for any layout: it is refused, and leaves them as they were filled.
+fn short_open(r: usize, v: &[u8], st: &mut [u8], fill: u8)
+    ensures { λ u. ⌜ now (st .exit) ≡ patch (now (st .entry)) 0 (take shortSize (replicate (length (now (st .entry))) fill)) ⌝ }
+{
+    if st.len() < SHORT_SIZE {
+        open_filled(r, v, st, fill);
+        return;
     }
+    let n = SHORT_SIZE;
+    open_filled(r, v, &mut st[..n], fill);
 }
 
 fn live_after(a: OpenAnswer) -> Live
-    ensures { λ r. ⌜ r ≡ liveAfter a ⌝ }
+    ensures { λ r. ⌜ ((st : List ℕ) → liveOf r st ≡ lists.openLive st (openAnswer a)) ⌝ }
 {
     match a {
         OpenAnswer::Opened(s, _) => Live::On(s),
@@ -147,7 +182,7 @@ fn live_after(a: OpenAnswer) -> Live
 
 // Whether an open was taken, and reports no store to come.
 fn nothing_to_come(a: OpenAnswer) -> bool
-    ensures { λ r. ⌜ r ≡ lists.openSettles a ⌝ }
+    ensures { λ r. ⌜ r ≡ lists.openSettles (openAnswer a) ⌝ }
 {
     match a {
         OpenAnswer::Opened(_, stores) => stores == 0,
@@ -165,19 +200,18 @@ fn event_on(
     sector: usize,
     fill: u8,
 ) -> Moment
-    ensures { λ m. ⌜ worldOf m (now (v .exit)) (now (st .exit)) ≡ lists.play (tagOf (s .layout .width)) r (now (v .entry)) (on s (now (st .entry))) (eventOf (length (now (st .entry))) kind sector fill) ⌝ }
+    ensures { λ m. ⌜ Turn r (now (v .entry)) (on s (now (st .entry))) (now (st .entry)) (eventOf (length (now (st .entry))) kind sector fill) m (now (v .exit)) (now (st .exit)) ⌝ }
 {
     if kind == CUT {
         return at_rest(Live::Off);
     }
-    if kind == OPEN {
-        return at_rest(Live::On(s));
-    }
     if kind == WRITE {
         let bytes = [fill; SECTOR_SIZE];
-        let written = volume::write::write(s, st, sector, &bytes);
-        let next = written.state;
-        return at_rest(Live::On(next));
+        return write_event(s, st, sector, &bytes);
+    }
+    if kind == SHORT_WRITE {
+        let bytes = [fill; SHORT_SIZE];
+        return write_event(s, st, sector, &bytes);
     }
     if kind == FLUSH {
         let flushed = volume::flush::flush(s);
@@ -187,9 +221,30 @@ fn event_on(
     if kind == STEP {
         return step_event(s, v, st);
     }
+    read_event(s, v, st, kind, sector, fill);
+    at_rest(Live::On(s))
+}
+
+fn write_event(s: State, st: &mut [u8], sector: usize, bytes: &[u8]) -> Moment
+    ensures { λ m. ⌜ ((v : List ℕ) → worldOf m v (now (st .exit)) ≡ lists.writeWorld v (writeOf tagOf s (now (st .entry)) sector (now (bytes .entry)))) ⌝ }
+{
+    let written = volume::write::write(s, st, sector, bytes);
+    let next = written.state;
+    at_rest(Live::On(next))
+}
+
+// A read, unless the kind is an open's, which is not made while a state is live.
+fn read_event(s: State, v: &[u8], st: &[u8], kind: u8, sector: usize, fill: u8) {
+    if kind == OPEN || kind == SHORT_OPEN {
+        return;
+    }
+    if kind == SHORT_READ {
+        let mut bytes = [fill; SHORT_SIZE];
+        volume::read::read(s, v, st, sector, &mut bytes);
+        return;
+    }
     let mut bytes = [fill; SECTOR_SIZE];
     volume::read::read(s, v, st, sector, &mut bytes);
-    at_rest(Live::On(s))
 }
 
 // A step settles where it says filling.

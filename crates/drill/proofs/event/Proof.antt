@@ -5,17 +5,17 @@ use lib.ListN.{length}
 use Rattle.drill.proofs.event.Statement.{statement}
 use Rattle.drill.proofs.event.Tie as tie
 
--- src/lib.rt:110:1
+-- src/lib.rt:119:1
 returns : tie.Need-returns
 returns c =
     let a = c .before .before .before .before .before .before .before .before .before .args in
-    when-off _ (a .r) (a .v .now) (a .st .now) (eventOf (length (a .st .now)) (a .kind) (a .sector) (a .fill)) (a .live) (c .before .before .before .before .before .enum-told .given .1) (c .before .before .event-off .ensures)
+    when-off (a .r) (a .v .now) (a .st .now) (eventOf (length (a .st .now)) (a .kind) (a .sector) (a .fill)) (a .live) _ _ _ (c .before .before .before .before .before .enum-told .given .1) (c .before .before .event-off .ensures)
 
--- src/lib.rt:110:1
+-- src/lib.rt:119:1
 returns-2 : tie.Need-returns-2
 returns-2 c =
     let a = c .before .before .before .before .before .before .before .before .before .before .before .before .args in
-    when-on _ (a .r) (a .v .now) (a .st .now) (eventOf (length (a .st .now)) (a .kind) (a .sector) (a .fill)) (a .live) _ (c .before .before .before .before .before .before .before .before .live .given .1) (c .before .before .before .before .event-on .ensures)
+    when-on (a .r) (a .v .now) (a .st .now) (eventOf (length (a .st .now)) (a .kind) (a .sector) (a .fill)) (a .live) _ _ _ _ (c .before .before .before .before .before .before .before .before .live .given .1) (c .before .before .before .before .event-on .ensures)
 
 pub event-spec : {M : Type 1} → statement M
 event-spec =

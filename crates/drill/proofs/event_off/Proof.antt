@@ -1,32 +1,40 @@
 use borrow.Author.Needs.{needs}
 use mathlib.Core.Path.{refl}
-use Rattle.drill.specs.Played.{volumeTag}
-use Rattle.drill.proofs.Turns.{stays-off, opens}
+use Rattle.drill.proofs.Turns.{stays-off, opens, opens-short}
 use lib.ListN.{length}
 use Rattle.drill.proofs.event_off.Statement.{statement}
 use Rattle.drill.proofs.event_off.Tie as tie
 
--- src/lib.rt:132:9
+-- src/lib.rt:142:9
 returns : tie.Need-returns
 returns c =
-    let a = c .before .before .before .before .args in
-    stays-off (volumeTag (a .r) (a .v .now)) (a .r) (length (a .st .now)) (a .kind) (a .sector) (a .fill) (a .v .now) (a .st .now) (c .at-rest .result) (c .at-rest .ensures) (c .before .if1 .taken)
+    let a = c .before .before .before .before .before .before .before .before .before .args in
+    opens (a .r) (length (a .st .now)) (a .kind) (a .sector) (a .fill) (a .v .now) (a .st .now) _ refl (c .before .before .before .before .open-filled .result) (c .before .before .before .before .open-filled .ensures) (c .before .live-after .result) (c .nothing-to-come .result) (c .before .live-after .ensures) (c .nothing-to-come .ensures) (c .before .before .before .before .before .before .if1 .taken)
 
--- src/lib.rt:128:1
+-- src/lib.rt:149:9
 returns-2 : tie.Need-returns-2
 returns-2 c =
-    let a = c .before .before .before .before .before .before .before .before .before .before .before .before .before .args in
-    opens (volumeTag (a .r) (a .v .now)) (a .r) (length (a .st .now)) (a .kind) (a .sector) (a .fill) (a .v .now) (a .st .now) _ _ refl (c .before .before .before .before .before .before .before .before .fill-at .ensures) (c .before .before .before .before .before .before .before .before .before .before .if1 .left) _ (c .before .before .before .before .«open» .ensures) (c .before .live-after .result) (c .nothing-to-come .result) (c .before .live-after .ensures) (c .nothing-to-come .ensures)
+    let a = c .before .before .before .before .before .before .before .before .before .args in
+    opens-short (a .r) (length (a .st .now)) (a .kind) (a .sector) (a .fill) (a .v .now) (a .st .now) (c .at-rest .result) (c .at-rest .ensures) _ (c .before .before .before .short-open .ensures) (c .before .before .before .before .before .if2 .taken)
+
+-- src/lib.rt:137:1
+returns-3 : tie.Need-returns-3
+returns-3 c =
+    let a = c .before .before .before .before .before .args in
+    stays-off (a .r) (length (a .st .now)) (a .kind) (a .sector) (a .fill) (a .v .now) (a .st .now) (c .at-rest2 .result) (c .at-rest2 .ensures) (c .before .before .if1 .left) (c .before .if2 .left)
 
 pub event-off-spec : {M : Type 1} → statement M
 event-off-spec =
     tie.close
     (tie.spec
     (λ c κs. search needs)
-    returns
-    (λ c κs. search needs)
-    (λ c κs. search needs)
     (λ c κs. search needs)
     (λ c κs. search needs)
     (λ c. search needs)
-    returns-2)
+    returns
+    (λ c κs. search needs)
+    (λ c κs. search needs)
+    (λ c. search needs)
+    returns-2
+    (λ c κs. search needs)
+    returns-3)

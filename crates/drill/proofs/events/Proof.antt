@@ -1,34 +1,28 @@
 use borrow.Author.Needs.{needs}
-use mathlib.Core.List.{List}
-use Rattle.model.specs.Tag.{tagOf}
-use Rattle.model.specs.Format.{formatOf}
-use Rattle.model.specs.Guarantees as lists
-use Rattle.model.specs.declared.FormatAnswer.the-variants.{Formatted}
 use Rattle.drill.specs.Script.{eventsUpTo}
-use Rattle.drill.specs.Played.{worldOf}
+use Rattle.drill.specs.Played.{Leaves}
 use Rattle.drill.proofs.Worlds.{begins, event-played}
 use Prim.Native.Nat.{ℕ, _-_, _/_, _≤_}
 use native.Mathlib.Omega.{arith}
 use lib.ListN.{length}
-use mathlib.Core.Path.{_≡_, refl, ap, _∙_}
+use mathlib.Core.Path.{_≡_, refl, subst}
 use Rattle.drill.proofs.events.Statement.{statement}
 use Rattle.drill.proofs.events.Tie as tie
 
 abbrev Inv-loop : tie.InvT-loop
-Inv-loop g script v₀ st₀ count last₀ i₀ v st last i = (i ≤ count) × (count ≡ length script / 4) × (length v ≡ length v₀) × (length st ≡ length st₀)
-    × ((u : List ℕ) → formatOf (tagOf (g .width)) g u .answer ≡ Formatted → v₀ ≡ formatOf (tagOf (g .width)) g u .volume
-    → worldOf last v st ≡ lists.worldOf (tagOf (g .width)) g u (eventsUpTo (length st₀) script i))
+Inv-loop r script v₀ st₀ count last₀ i₀ v st last i = (i ≤ count) × (count ≡ length script / 4) × (length v ≡ length v₀) × (length st ≡ length st₀)
+    × Leaves r v₀ st₀ (eventsUpTo (length st₀) script i) last v st
 
 abbrev μ-loop : tie.MeasureT-loop
-μ-loop g script v₀ st₀ count last₀ i₀ v st last i = count - i
+μ-loop r script v₀ st₀ count last₀ i₀ v st last i = count - i
 
--- src/lib.rt:88:5
+-- src/lib.rt:97:5
 loop-holds : tie.Need-loop-holds Inv-loop μ-loop
 loop-holds c =
     let a = c .before .before .before .before .args in
-    (omega arith, refl, refl, refl, λ u ok e. begins (a .g) u ok (a .v .now) (a .st .now) _ (c .at-rest .ensures) e)
+    (omega arith, refl, refl, refl, begins (a .r) (a .v .now) (a .st .now) _ (c .at-rest .ensures))
 
--- src/lib.rt:88:5
+-- src/lib.rt:97:5
 loop-again : tie.Need-loop-again Inv-loop μ-loop
 loop-again c =
     let a = c .before .before .before .before .before .before .before .before .before .before .before .before .before .before .before .before .args in
@@ -38,16 +32,16 @@ loop-again c =
       turn .inv .1,
       omega (arith, called .kept .1 .1 .0, turn .inv .2),
       omega (arith, called .kept .1 .1 .1 .0, turn .inv .3),
-      λ u ok e. event-played (a .g) u ok (length (a .st .now)) (turn .i) (a .script .now) (turn .v) (turn .st) _ _ (turn .last) (called .result) (turn .inv .4 u ok e) _ _ _ (called .ensures) (turn .inv .3) refl (c .before .before .before .before .before .before .before .before .before .number .ensures .0) refl,
+      event-played (a .r) (a .v .now) (a .st .now) (length (a .st .now)) (turn .i) (a .script .now) (turn .v) (turn .st) _ _ (turn .last) (called .result) (turn .inv .4) _ _ _ (called .ensures) (turn .inv .3) refl (c .before .before .before .before .before .before .before .before .before .number .ensures .0) refl,
     )
 
--- src/lib.rt:82:1
+-- src/lib.rt:91:1
 returns : tie.Need-returns Inv-loop μ-loop
 returns c =
     let a = c .before .before .before .before .before .before .args in
     let turn = c .before .loop in
     let all : turn .i ≡ length (a .script .now) / 4 = omega (arith, c .loop-test .left, turn .inv .0, turn .inv .1) in
-    λ u ok e. turn .inv .4 u ok e ∙ ap (λ (m : ℕ). lists.worldOf (tagOf (a .g .width)) (a .g) u (eventsUpTo (length (a .st .now)) (a .script .now) m)) all
+    subst (λ (m : ℕ). Leaves (a .r) (a .v .now) (a .st .now) (eventsUpTo (length (a .st .now)) (a .script .now) m) (turn .last) (turn .v) (turn .st)) all (turn .inv .4)
 
 pub events-spec : {M : Type 1} → statement M
 events-spec =

@@ -3,13 +3,13 @@ use Rattle.drill.proofs.Worlds.{not-played, all-played}
 use Rattle.drill.proofs.play.Statement.{statement}
 use Rattle.drill.proofs.play.Tie as tie
 
--- src/lib.rt:69:13
+-- src/lib.rt:78:13
 returns : tie.Need-returns
 returns c =
     let a = c .before .before .before .before .before .before .before .before .before .before .args in
     not-played (a .g) (a .script .now) (a .v .now) (a .st .now) (c .before .before .before .before .before .format .result) _ (c .before .before .before .before .before .format .ensures) _ (c .at-rest .result) (c .before .enum-told2 .given .1) (c .at-rest .ensures)
 
--- src/lib.rt:62:1
+-- src/lib.rt:71:1
 returns-2 : tie.Need-returns-2
 returns-2 c =
     let a = c .before .before .before .before .before .before .before .before .before .before .before .before .before .before .before .before .args in

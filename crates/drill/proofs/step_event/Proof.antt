@@ -4,7 +4,7 @@ use Rattle.drill.proofs.Turns.{stepped}
 use Rattle.drill.proofs.step_event.Statement.{statement}
 use Rattle.drill.proofs.step_event.Tie as tie
 
--- src/lib.rt:199:1
+-- src/lib.rt:251:1
 returns : tie.Need-returns
 returns c =
     let a = c .before .before .before .before .before .before .before .before .before .before .before .args in
