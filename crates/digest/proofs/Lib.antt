@@ -2,3 +2,4 @@
 pub mod Theorems
 mod Absorb
 mod Closing
+pub mod Clients

@@ -6,3 +6,4 @@ pub mod Returns
 pub mod Comparison
 pub mod Acceptance
 pub mod Theorems
+pub mod Clients
