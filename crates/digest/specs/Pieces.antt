@@ -4,9 +4,11 @@
 -- freshOf           : the state before any piece
 -- heldOf s          : the bytes of the unfinished block, the first (count mod 64) of the tail
 -- absorbOf s p      : the state s with the piece p added: the whole blocks of the held bytes and p are hashed, what is left is the tail, with zeros behind it
--- updated u         : what the code returned for a piece, with its answer as document 01 has it
+-- UpdateOutcome     : what adding a piece returns: the answer as document 01 has it, and the state
+-- updated u         : what the code returned, so read
 -- updateOf s p      : the call that adds a piece; past the limit it is refused, and the state stays (refusedPieceOf)
--- closed c          : what the code returned for a digest, with its answer as document 01 has it
+-- DigestOutcome     : what closing returns: the answer, and the digest
+-- closed c          : what the code returned, so read
 -- closeOf s         : the digest of all that was added to s, by adding the padding
 -- finishOf s        : the call that closes; past the limit it is refused, and 32 zeros stand for the digest (refusedDigestOf)
 -- digestOf m        : the call that takes a whole message, refused likewise

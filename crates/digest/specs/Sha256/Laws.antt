@@ -4,7 +4,7 @@ use native.Mathlib.Nat.{add-zero, add-suc}
 use native.Mathlib.Omega.{arith}
 use mathlib.Core.Path.{_≡_, refl, sym, ap, _∙_}
 use mathlib.Core.List.{List, [], _∷_, _++_, append-assoc}
-use lib.ListN.{length, take, drop, replicate, length-append, length-drop, length-replicate}
+use lib.ListN.{length, take, drop, replicate, length-append, length-drop}
 use lib.Seq.{drop-drop, drop-append-le, length-take-le, take-at}
 use Rattle.octets.specs.Numbers.{Bytes, be}
 use Rattle.octets.proofs.Numbers.{length-be, bytes-be, bytes-nil}
@@ -102,12 +102,6 @@ module _ (s : State) (p q : List ℕ) (full : length (s .tail) ≡ 64) where
   absorb-append =
       let c : s .count + length p + length q ≡ s .count + length (p ++ q) = rw length-append (omega arith) in
       rw (kept, hash-both, tail-both, c, append-assoc)
-
--- a tail is always a block long
-pub length-tail : (s : State) (p : List ℕ) → length (absorbOf s p .tail) ≡ 64
-unfolding absorbOf filledOf
-length-tail s p =
-    rw (length-append, length-replicate, length-drop) (omega arith)
 
 pub words-absorb : (m : List ℕ) → absorbOf freshOf m .words ≡ hashOf (length m / 64) initialHash m
 unfolding absorbOf
