@@ -1,11 +1,10 @@
 -- Uses of the top statements, each at an instance that only the whole statement gives: so that a statement which is made weaker, and is then still
 -- proved, is refused here.
-use Prim.Native.Nat.{ℕ, _+_, _-_, _*_, _%_, _^_, _≤_, _<_}
+use Prim.Native.Nat.{ℕ, _+_, _-_, _*_, _%_, _^_, _≤_}
 use mathlib.Core.List.{List, [], _∷_, flatten}
 use mathlib.Core.Path.{_≡_}
 use native.Mathlib.Omega.{arith}
 use lib.ListN.{length}
-
 use Rattle.octets.specs.Answer.{taken}
 use Rattle.digest.specs.declared.State.{State}
 use Rattle.digest.specs.Padding.{paddingOf}
