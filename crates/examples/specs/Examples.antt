@@ -36,7 +36,7 @@ use Rattle.tree.specs.Build.{buildOf}
 abbrev bench : ℕ → Layout
 bench p = record { reserved = 0; shift = 4; width = 32; sections = 1; provided = p }
 
--- tags of T bytes on runs of 2 ^ n sectors
+-- tags of 32 bytes on runs of 2 ^ n sectors
 abbrev tagged : ℕ → Layout
 tagged n = record { reserved = 0; shift = n; width = 32; sections = 1; provided = 1 }
 

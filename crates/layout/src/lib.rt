@@ -2,7 +2,7 @@
 // specs/Layout.antt gives, with a bound, so that a caller's arithmetic needs no other fact. Unless another unit is named, a size is in sectors,
 // and an address is the number of a sector of the volume.
 //
-// `layout_ok`, `width_ok` and `volume_loan_ok` take anything. The others are for the crates of this repository: they require a layout in range, or a tag of
+// `layout_ok`, `width_ok` and `volume_loan_ok`, which is that of specs/State.antt, take anything. The others are for the crates of this repository: they require a layout in range, or a tag of
 // at most 32 bytes, which their callers have tested.
 pub mod superblock;
 

@@ -1,4 +1,5 @@
--- The specification of the volume, in the order of document 01.
+-- The specification of the volume: what document 01 says of layout, journal and calls, then its ledger and demand 3. Query, Advance and NextStore are calls
+-- that document 01 does not have; Geometry, Guarantees, ReadBack, FirstRule and Reserved state what holds beside demand 3.
 pub mod Refusal
 pub mod Layout
 pub mod Geometry

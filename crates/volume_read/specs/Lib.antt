@@ -1,2 +1,2 @@
--- What the code hands back, beside the model's results.
+-- The newest entry for a sector, as the code finds it.
 pub mod Newest
