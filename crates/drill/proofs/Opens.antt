@@ -15,8 +15,9 @@ use Rattle.model.specs.Superblock.{superblockAt, layoutIn}
 use Rattle.model.specs.Journal.{replay}
 use Rattle.model.specs.State.{Verdict, stagingOk}
 use Rattle.model.specs.Tag.{Tags}
-use Rattle.model.specs.Open.{superblockRows, openRows, entriesVerdict, openBy, openWith, openOf}
-use Rattle.model.specs.World.{off, World, openWorld, unmoved}
+use Rattle.model.specs.Open.{OpenResult, superblockRows, openRows, entriesVerdict, openBy, openWith, openOf}
+use Rattle.model.specs.Medium.{mediumOf}
+use Rattle.model.specs.World.{off, World, byOpen, resting}
 use Rattle.model.specs.declared.Layout.{Layout}
 use Rattle.drill.specs.Played.{stagingIn}
 use Rattle.drill.proofs.Rows.{each}
@@ -25,12 +26,15 @@ module _ (tags : Tags) (r : ℕ) (v x : List ℕ) where
   abbrev g : Layout
   g = layoutIn r (superblockAt r v)
 
+  abbrev left : OpenResult → World
+  left o = byOpen (mediumOf v) (o .staging) (o .answer) .world
+
   -- what an open leaves in its loan
-  pub open-leaves : openOf tags r v x .staging ≡ stagingIn (openWorld v (openOf tags r v x) .live) x
+  pub open-leaves : openOf tags r v x .staging ≡ stagingIn (left (openOf tags r v x) .live) x
   unfolding openWith
   open-leaves = go (firstMet (openRows g r v x) (entriesVerdict (tags (g .width)) g (replay g v)))
     where
-      go : (y : Verdict) → openBy g v x y .staging ≡ stagingIn (openWorld v (openBy g v x y) .live) x
+      go : (y : Verdict) → openBy g v x y .staging ≡ stagingIn (left (openBy g v x y) .live) x
       go (taken z) = refl
       go (refused z) = refl
 
@@ -48,11 +52,11 @@ module _ (tags : Tags) (r : ℕ) (v x : List ℕ) where
     refuses =
         rw wrong (each (λ (y : Verdict). isTaken y ≡ false) (superblockRows g r v) (refuse 1 []) (λ e. refl, (λ e. refl, (λ e. refl, (λ e. refl, (λ e. refl, (λ e. refl, tt)))))) refl)
 
-    pub few-refused : openWorld v (openOf tags r v x) ≡ unmoved v off
+    pub few-refused : left (openOf tags r v x) ≡ resting (mediumOf v) off
     unfolding openWith
     few-refused = go (firstMet (openRows g r v x) (entriesVerdict (tags (g .width)) g (replay g v))) refuses
       where
-        go : (y : Verdict) → isTaken y ≡ false → openWorld v (openBy g v x y) ≡ unmoved v off
+        go : (y : Verdict) → isTaken y ≡ false → left (openBy g v x y) ≡ resting (mediumOf v) off
         go (taken z) e = absurd (true≢false e)
         go (refused z) e = refl
 

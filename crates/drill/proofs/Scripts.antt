@@ -9,17 +9,17 @@ use lib.ListN.{replicate}
 use lib.Dec.{eqb}
 use borrow.Author.Tests.{eqb-true}
 use Rattle.octets.specs.Sectors.{sectorSize}
-use Rattle.model.specs.Tag.{tagOf}
-use Rattle.model.specs.World.{Event, aRead, Live, off, on, World, unmoved, play, next, after}
+use Rattle.model.specs.Medium.{mediumOf, volumeIn}
+use Rattle.model.specs.World.{Event, aRead, Live, off, on, World, resting, happens, next, after}
 use Rattle.model.specs.declared.State.{State}
 use Rattle.drill.specs.Script.{eventRows, eventOf, eventAt, eventsUpTo}
-use Rattle.drill.specs.Played.{stagingNext, stagingAfter}
+use Rattle.drill.specs.Played.{setting, stagingNext, stagingAfter}
 use Rattle.drill.proofs.Rows.{each}
 
 -- ---- events that change nothing
 
 abbrev Still : ℕ → List ℕ → Live → List ℕ → Event → Type 0
-Still r v x st e = (play tagOf r v x e ≡ unmoved v x) × (stagingNext r v x st e ≡ st)
+Still r v x st e = (happens (setting r) (mediumOf v) x e .world ≡ resting (mediumOf v) x) × (stagingNext r v x st e ≡ st)
 
 module _ (r n k s b : ℕ) (v st : List ℕ) where
   not-kind : {A : Type 0} (c : ℕ) → k ≢ c → eqb k c ≡ true → A
@@ -44,21 +44,21 @@ module _ (r n k s b : ℕ) (v st : List ℕ) where
 -- ---- one event more
 
 module _ (r : ℕ) where
-  after-more : (w : World) (es : List Event) (e : Event) → after tagOf r w (es ++ (e ∷ [])) ≡ next tagOf r (after tagOf r w es) e
+  after-more : (w : World) (es : List Event) (e : Event) → after (setting r) w (es ++ (e ∷ [])) ≡ next (setting r) (after (setting r) w es) e
   unfolding after
   after-more w [] e = refl
-  after-more w (x ∷ es) e = after-more (next tagOf r w x) es e
+  after-more w (x ∷ es) e = after-more (next (setting r) w x) es e
 
   staging-more : (w : World) (st : List ℕ) (es : List Event) (e : Event)
-      → stagingAfter r w st (es ++ (e ∷ [])) ≡ stagingNext r (after tagOf r w es .medium) (after tagOf r w es .live) (stagingAfter r w st es) e
+      → stagingAfter r w st (es ++ (e ∷ [])) ≡ stagingNext r (volumeIn (after (setting r) w es .medium)) (after (setting r) w es .live) (stagingAfter r w st es) e
   unfolding after stagingAfter
   staging-more w st [] e = refl
-  staging-more w st (x ∷ es) e = staging-more (next tagOf r w x) (stagingNext r (w .medium) (w .live) st x) es e
+  staging-more w st (x ∷ es) e = staging-more (next (setting r) w x) (stagingNext r (volumeIn (w .medium)) (w .live) st x) es e
 
   module _ (w : World) (n i : ℕ) (script : List ℕ) where
-    pub world-more : after tagOf r w (eventsUpTo n script (i + 1)) ≡ next tagOf r (after tagOf r w (eventsUpTo n script i)) (eventAt n script i)
+    pub world-more : after (setting r) w (eventsUpTo n script (i + 1)) ≡ next (setting r) (after (setting r) w (eventsUpTo n script i)) (eventAt n script i)
     world-more = rw add-one (after-more w (eventsUpTo n script i) (eventAt n script i))
 
     pub loan-more : (st : List ℕ) → stagingAfter r w st (eventsUpTo n script (i + 1))
-        ≡ stagingNext r (after tagOf r w (eventsUpTo n script i) .medium) (after tagOf r w (eventsUpTo n script i) .live) (stagingAfter r w st (eventsUpTo n script i)) (eventAt n script i)
+        ≡ stagingNext r (volumeIn (after (setting r) w (eventsUpTo n script i) .medium)) (after (setting r) w (eventsUpTo n script i) .live) (stagingAfter r w st (eventsUpTo n script i)) (eventAt n script i)
     loan-more st = rw add-one (staging-more w st (eventsUpTo n script i) (eventAt n script i))

@@ -15,10 +15,12 @@ use Rattle.model.specs.Refusal.{openAnswer, stepAnswer}
 use Rattle.model.specs.Tag.{tagOf}
 use Rattle.model.specs.Open.{OpenResult, openOf}
 use Rattle.model.specs.Write.{WriteResult, writeOf}
-use Rattle.model.specs.Flush.{flushOf}
-use Rattle.model.specs.Step.{StepResult, stepOf}
+use Rattle.model.specs.Flush.{FlushResult, flushOf}
+use Rattle.model.specs.Step.{stepOf}
 use Rattle.model.specs.World as lists
-use Rattle.model.specs.World.{Event, off, on, World, openLive, openWorld, writeWorld, flushWorld, stepWorld, stepSettles, openSettles}
+use Rattle.model.specs.Medium.{mediumOf}
+use Rattle.model.specs.World.{Event, aStep, off, on, World, byOpen, byWrite, byFlush, happens}
+use Rattle.model.specs.StepResult.{stepSettles}
 use Rattle.model.specs.declared.Flushed.{Flushed}
 use Rattle.model.specs.declared.OpenAnswer.{OpenAnswer}
 use Rattle.model.specs.declared.State.{State}
@@ -30,7 +32,7 @@ use Rattle.drill.specs.declared.Live.{Live}
 use Rattle.drill.specs.declared.Live.the-variants.{Off, On}
 use Rattle.drill.specs.declared.Moment.{Moment}
 use Rattle.drill.specs.Script.{shortSize, eventOf}
-use Rattle.drill.specs.Played.{liveOf, worldOf, stagingIn, Turn}
+use Rattle.drill.specs.Played.{setting, liveOf, worldOf, stagingIn, Turn}
 use Rattle.drill.proofs.Opens.{open-leaves, few-refused, few-left}
 use Rattle.drill.proofs.Scripts.{still-off, still-on}
 
@@ -41,6 +43,10 @@ loan-of m v st e = go (m .live) ∙ ap (λ (y : World). stagingIn (y .live) st) 
     go : (x : Live) → st ≡ stagingIn (liveOf x st) st
     go Off = refl
     go (On s) = refl
+
+-- the world that an open leaves
+abbrev opened-world : List ℕ → OpenResult → World
+opened-world v o = byOpen (mediumOf v) (o .staging) (o .answer) .world
 
 module _ (r n k s b : ℕ) (v : List ℕ) where
   -- a kind by its number
@@ -70,19 +76,16 @@ module _ (r n k s b : ℕ) (v : List ℕ) where
         })
 
   module _ (st left : List ℕ) (sized : n ≡ length st) (a : OpenAnswer) (gives : record { answer = openAnswer a; staging = left } ≡ openOf tagOf r v (replicate n b)) where
-    pub opens : (l : Live) (t : Bool) → ((y : List ℕ) → liveOf l y ≡ openLive y (openAnswer a)) → t ≡ openSettles (openAnswer a) → k ≡ 1
-        → Turn r v off st (eventOf n k s b) (record { live = l; settled = t }) v left
+    pub opens : (m : Moment) → ((u y : List ℕ) → worldOf m u y ≡ byOpen (mediumOf u) y (openAnswer a) .world) → k ≡ 1 → Turn r v off st (eventOf n k s b) m v left
     unfolding eventOf
-    opens l t el et e =
+    opens m w e =
         let all : patch st 0 (replicate n b) ≡ replicate n b = patch-all st (replicate n b) (length-replicate n b ∙ sized) in
-        as-kind 1 off st (record { live = l; settled = t }) v left e
+        as-kind 1 off st m v left e
         (record {
-          world = ap (λ (y : lists.Live). record { medium = v; live = y; settled = t }) (el left)
-              ∙ ap (λ (y : Bool). record { medium = v; live = openLive left (openAnswer a); settled = y }) et
-              ∙ ap (openWorld v) gives;
+          world = w v left ∙ ap (opened-world v) gives;
           staging = ap (λ (o : OpenResult). o .staging) gives
               ∙ open-leaves tagOf r v (replicate n b)
-              ∙ ap (stagingIn (openWorld v (openOf tagOf r v (replicate n b)) .live)) (sym all);
+              ∙ ap (stagingIn (opened-world v (openOf tagOf r v (replicate n b)) .live)) (sym all);
         })
 
   -- ---- a state is live
@@ -92,12 +95,12 @@ module _ (r n k s b : ℕ) (v : List ℕ) where
     unfolding eventOf
     cuts m q e = as-kind 0 (on x st) st m v st e (record { world = ap (λ (y : Moment). worldOf y v st) q; staging = refl })
 
-    pub writes : (m : Moment) (left : List ℕ) → ((u : List ℕ) → worldOf m u left ≡ writeWorld u (writeOf tagOf x st s (replicate sectorSize b)))
+    pub writes : (m : Moment) (left : List ℕ) → ((u : List ℕ) → worldOf m u left ≡ byWrite (mediumOf u) s (replicate sectorSize b) (writeOf tagOf x st s (replicate sectorSize b)) .world)
         → k ≡ 2 → Turn r v (on x st) st (eventOf n k s b) m v left
     unfolding eventOf
     writes m left w e = as-kind 2 (on x st) st m v left e (record { world = w v; staging = loan-of m v left (w v) })
 
-    pub writes-short : (m : Moment) (left : List ℕ) → ((u : List ℕ) → worldOf m u left ≡ writeWorld u (writeOf tagOf x st s (replicate shortSize b)))
+    pub writes-short : (m : Moment) (left : List ℕ) → ((u : List ℕ) → worldOf m u left ≡ byWrite (mediumOf u) s (replicate shortSize b) (writeOf tagOf x st s (replicate shortSize b)) .world)
         → k ≡ 7 → Turn r v (on x st) st (eventOf n k s b) m v left
     unfolding eventOf
     writes-short m left w e = as-kind 7 (on x st) st m v left e (record { world = w v; staging = loan-of m v left (w v) })
@@ -105,9 +108,9 @@ module _ (r n k s b : ℕ) (v : List ℕ) where
     pub flushes : (f : Flushed) (m : Moment) → m ≡ record { live = On (f .state); settled = false } → flushed f ≡ flushOf x → k ≡ 3
         → Turn r v (on x st) st (eventOf n k s b) m v st
     unfolding eventOf
-    flushes f m q o e = as-kind 3 (on x st) st m v st e (record { world = ap (λ (y : Moment). worldOf y v st) q ∙ ap (flushWorld v st) o; staging = refl })
+    flushes f m q o e = as-kind 3 (on x st) st m v st e (record { world = ap (λ (y : Moment). worldOf y v st) q ∙ ap (λ (y : FlushResult). byFlush (mediumOf v) st y .world) o; staging = refl })
 
-    pub steps : (m : Moment) (v′ left : List ℕ) → worldOf m v′ left ≡ stepWorld v (stepOf x v st) → k ≡ 4
+    pub steps : (m : Moment) (v′ left : List ℕ) → worldOf m v′ left ≡ happens (setting 0) (mediumOf v) (on x st) aStep .world → k ≡ 4
         → Turn r v (on x st) st (eventOf n k s b) m v′ left
     unfolding eventOf
     steps m v′ left w e = as-kind 4 (on x st) st m v′ left e (record { world = w; staging = loan-of m v′ left w })
@@ -120,17 +123,17 @@ module _ (r n k s b : ℕ) (v : List ℕ) where
 
 -- what write handed back
 pub wrote : (w : Written) (m : Moment) (left : List ℕ) (o : WriteResult) → m ≡ record { live = On (w .state); settled = false } → written w left ≡ o
-    → (v : List ℕ) → worldOf m v left ≡ writeWorld v o
-wrote w m left o q e v = ap (λ (y : Moment). worldOf y v left) q ∙ ap (writeWorld v) e
+    → (v : List ℕ) (n : ℕ) (b : List ℕ) → worldOf m v left ≡ byWrite (mediumOf v) n b o .world
+wrote w m left o q e v n b = ap (λ (y : Moment). worldOf y v left) q ∙ ap (λ (y : WriteResult). byWrite (mediumOf v) n b y .world) e
 
 -- what step handed back
-pub stepped : (v v′ left : List ℕ) (o : StepResult) (r : Stepped) (t : Bool) → Leaves v o r v′ left → t ≡ stepSettles (stepAnswer (r .answer))
-    → worldOf (record { live = On (r .state); settled = t }) v′ left ≡ stepWorld v o
-stepped v v′ left o r t l e = ap (λ (y : Bool). worldOf (record { live = On (r .state); settled = y }) v′ left) e ∙ handed
+pub stepped : (v st v′ left : List ℕ) (x : State) (r : Stepped) (t : Bool) → Leaves v (stepOf x v st) r v′ left → t ≡ stepSettles (stepAnswer (r .answer))
+    → worldOf (record { live = On (r .state); settled = t }) v′ left ≡ happens (setting 0) (mediumOf v) (on x st) aStep .world
+stepped v st v′ left x r t l e = ap (λ (y : Bool). worldOf (record { live = On (r .state); settled = y }) v′ left) e ∙ handed
   where
-    handed : worldOf (record { live = On (r .state); settled = stepSettles (stepAnswer (r .answer)) }) v′ left ≡ stepWorld v o
+    handed : worldOf (record { live = On (r .state); settled = stepSettles (stepAnswer (r .answer)) }) v′ left ≡ happens (setting 0) (mediumOf v) (on x st) aStep .world
     handed = λ i. record {
-      medium = l .volume i;
+      medium = mediumOf (l .volume i);
       live = on (l .state i) (l .staging i);
       settled = stepSettles (l .answer i);
     }

@@ -12,9 +12,9 @@ use Rattle.model.specs.Tag.{tagOf}
 use Rattle.model.specs.State.{Verdict}
 use Rattle.model.specs.Refusal.{formatAnswer}
 use Rattle.model.specs.Format.{FormatResult, formatOf}
-use Rattle.model.specs.World.{Event, World, next, begin, after}
-use Rattle.model.specs.Guarantees as lists
-use Rattle.model.specs.Demand3.{Agrees}
+use Rattle.model.specs.Medium.{volumeIn}
+use Rattle.model.specs.World.{Event, World, settingOf, next, begin, after}
+use Rattle.model.specs.Demand3.{Agrees, worldAfter, ledgerAfter}
 use Rattle.model.proofs.Demand3.{demand3-sha256}
 use Rattle.model.specs.declared.FormatAnswer.{FormatAnswer}
 use Rattle.model.specs.declared.FormatAnswer.the-variants.{Formatted, Refused}
@@ -23,7 +23,7 @@ use Rattle.model.specs.declared.Layout.{Layout}
 use Rattle.drill.specs.declared.Live.the-variants.{Off}
 use Rattle.drill.specs.declared.Moment.{Moment}
 use Rattle.drill.specs.Script.{eventSize, eventOf, eventAt, eventsUpTo, eventsOf}
-use Rattle.drill.specs.Played.{liveOf, worldOf, stagingNext, stagingAfter, Turn, Leaves, played, Plays}
+use Rattle.drill.specs.Played.{setting, liveOf, worldOf, stagingNext, stagingAfter, Turn, Leaves, played, Plays}
 use Rattle.drill.proofs.Scripts.{world-more, loan-more}
 
 module _ (r : ℕ) (v₀ st₀ : List ℕ) where
@@ -41,11 +41,11 @@ module _ (r : ℕ) (v₀ st₀ : List ℕ) where
         let is : eventOf (length st) k s b ≡ eventAt n script i = λ j. eventOf (en j) (ek j) (es j) (eb j) in
         record {
           world = turn .world
-              ∙ ap (λ (x : Event). next tagOf r (worldOf m v st) x) is
-              ∙ ap (λ (w : World). next tagOf r w (eventAt n script i)) (before .world)
+              ∙ ap (λ (x : Event). next (setting r) (worldOf m v st) x) is
+              ∙ ap (λ (w : World). next (setting r) w (eventAt n script i)) (before .world)
               ∙ sym (world-more r (begin v₀) n i script);
           staging = turn .staging
-              ∙ (λ j. stagingNext r (before .world j .medium) (before .world j .live) (before .staging j) (is j))
+              ∙ (λ j. stagingNext r (volumeIn (before .world j .medium)) (before .world j .live) (before .staging j) (is j))
               ∙ sym (loan-more r (begin v₀) n i script st₀);
         }
 
@@ -59,7 +59,7 @@ module _ (g : Layout) (script v st : List ℕ) where
   events y = pick (isTaken y) (eventsOf (length st) script) []
 
   Demand : List Event → Type 0
-  Demand es = after tagOf (g .reserved) start es .settled ≡ true → Agrees tagOf g (formatOf tagOf g v .volume) (lists.worldOf tagOf g v es) (lists.toldOf tagOf g v es)
+  Demand es = after (settingOf tagOf g) start es .settled ≡ true → Agrees tagOf g (formatOf tagOf g v .volume) (worldAfter tagOf g v es) (ledgerAfter tagOf g v es)
 
   agreeing : (y : Verdict) → formatOf tagOf g v .answer ≡ y → Demand (events y)
   unfolding Demand after
@@ -73,8 +73,8 @@ module _ (g : Layout) (script v st : List ℕ) where
     plays : (m : Moment) (v′ st′ : List ℕ) → Leaves (g .reserved) v₁ st (events (formatAnswer a)) m v′ st′ → Plays g script v st (record { format = a; last = m }) v′ st′
     unfolding Demand
     plays m v′ st′ l =
-        let world : worldOf m v′ st′ ≡ lists.worldOf tagOf g v (played g script v st) =
-        l .world ∙ (λ j. after tagOf (g .reserved) (begin (made j .volume)) (events (answered j))) in
+        let world : worldOf m v′ st′ ≡ worldAfter tagOf g v (played g script v st) =
+        l .world ∙ (λ j. after (settingOf tagOf g) (begin (made j .volume)) (events (answered j))) in
         record {
           format = answered;
           leaves = record {
@@ -82,7 +82,7 @@ module _ (g : Layout) (script v st : List ℕ) where
             staging = l .staging ∙ (λ j. stagingAfter (g .reserved) (begin (made j .volume)) st (events (answered j)));
           };
           agrees = λ t.
-              subst (λ (w : World). Agrees tagOf g (formatOf tagOf g v .volume) w (lists.toldOf tagOf g v (played g script v st))) (sym world)
+              subst (λ (w : World). Agrees tagOf g (formatOf tagOf g v .volume) w (ledgerAfter tagOf g v (played g script v st))) (sym world)
               (agreeing (formatOf tagOf g v .answer) refl (sym (ap (λ (w : World). w .settled) world) ∙ t));
         }
 

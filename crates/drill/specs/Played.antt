@@ -1,6 +1,7 @@
 -- What a drill hands back and leaves in its two loans. The world of the model has the volume and, while a state is live, its staging; demand 3 speaks
 -- of that world. The staging loan has bytes also while nothing is live.
 --
+-- setting r               : document 01's tags, and r reserved sectors
 -- liveOf x st             : what is live, with the staging loan st
 -- worldOf m v st          : the world with the volume v
 -- filled e st             : the staging loan st as the call of e finds it: an open fills the first bytes, those that it is lent
@@ -22,9 +23,9 @@ use Rattle.octets.specs.Parts.{patch}
 use Rattle.model.specs.Tag.{tagOf}
 use Rattle.model.specs.Refusal.{formatAnswer}
 use Rattle.model.specs.Format.{formatOf}
-use Rattle.model.specs.World.{Event, aCut, anOpen, aWrite, aFlush, aStep, aRead, Live, off, on, World, begin, play, next, after}
-use Rattle.model.specs.Guarantees as lists
-use Rattle.model.specs.Demand3.{Agrees}
+use Rattle.model.specs.Medium.{mediumOf, volumeIn}
+use Rattle.model.specs.World.{Event, aCut, anOpen, aWrite, aFlush, aStep, aNextStore, aRead, Setting, Live, off, on, World, begin, happens, next, after}
+use Rattle.model.specs.Demand3.{Agrees, ledgerAfter}
 use Rattle.model.specs.declared.Layout.{Layout}
 use Rattle.drill.specs.declared.Live as code
 use Rattle.drill.specs.declared.Live.the-variants.{Off, On}
@@ -32,12 +33,15 @@ use Rattle.drill.specs.declared.Moment.{Moment}
 use Rattle.drill.specs.declared.Played.{Played}
 use Rattle.drill.specs.Script.{eventsOf}
 
+abbrev pub setting : ℕ → Setting
+setting r = record { tags = tagOf; reserved = r }
+
 abbrev pub liveOf : code.Live → List ℕ → Live
 liveOf Off st = off
 liveOf (On s) st = on s st
 
 abbrev pub worldOf : Moment → List ℕ → List ℕ → World
-worldOf m v st = record { medium = v; live = liveOf (m .live) st; settled = m .settled }
+worldOf m v st = record { medium = mediumOf v; live = liveOf (m .live) st; settled = m .settled }
 
 -- ---- the staging loan
 
@@ -47,6 +51,7 @@ filled (anOpen staging) st = patch st 0 staging
 filled (aWrite n b) st = st
 filled aFlush st = st
 filled aStep st = st
+filled (aNextStore b) st = st
 filled (aRead n loan) st = st
 
 -- the staging of a live state is the whole loan; a refused open and a cut leave the bytes as they are
@@ -55,20 +60,20 @@ stagingIn off st = st
 stagingIn (on s staging) st = staging
 
 abbrev pub stagingNext : ℕ → List ℕ → Live → List ℕ → Event → List ℕ
-stagingNext r v x st e = stagingIn (play tagOf r v x e .live) (filled e st)
+stagingNext r v x st e = stagingIn (happens (setting r) (mediumOf v) x e .world .live) (filled e st)
 
 unfoldable pub stagingAfter : ℕ → World → List ℕ → List Event → List ℕ
 stagingAfter r w st [] = st
-stagingAfter r w st (e ∷ es) = stagingAfter r (next tagOf r w e) (stagingNext r (w .medium) (w .live) st e) es
+stagingAfter r w st (e ∷ es) = stagingAfter r (next (setting r) w e) (stagingNext r (volumeIn (w .medium)) (w .live) st e) es
 
 -- ---- an event, and a list of them
 
 pub record Turn (r : ℕ) (v : List ℕ) (x : Live) (st : List ℕ) (e : Event) (m : Moment) (v′ st′ : List ℕ) : Type 0 where
-  pub world : worldOf m v′ st′ ≡ play tagOf r v x e
+  pub world : worldOf m v′ st′ ≡ happens (setting r) (mediumOf v) x e .world
   pub staging : st′ ≡ stagingNext r v x st e
 
 pub record Leaves (r : ℕ) (v st : List ℕ) (es : List Event) (m : Moment) (v′ st′ : List ℕ) : Type 0 where
-  pub world : worldOf m v′ st′ ≡ after tagOf r (begin v) es
+  pub world : worldOf m v′ st′ ≡ after (setting r) (begin v) es
   pub staging : st′ ≡ stagingAfter r (begin v) st es
 
 -- ---- a whole drill
@@ -82,4 +87,4 @@ module _ (g : Layout) (script v st : List ℕ) where
     pub format : formatAnswer (p .format) ≡ formatOf tagOf g v .answer
     pub leaves : Leaves (g .reserved) (formatOf tagOf g v .volume) st played (p .last) v′ st′
     -- demand 3, of what ran
-    pub agrees : p .last .settled ≡ true → Agrees tagOf g (formatOf tagOf g v .volume) (worldOf (p .last) v′ st′) (lists.toldOf tagOf g v played)
+    pub agrees : p .last .settled ≡ true → Agrees tagOf g (formatOf tagOf g v .volume) (worldOf (p .last) v′ st′) (ledgerAfter tagOf g v played)

@@ -17,7 +17,7 @@ use Rattle.octets.specs.Choice.{firstMet}
 use Rattle.octets.specs.Numbers.{value}
 use Rattle.octets.specs.Parts.{part}
 use Rattle.octets.specs.Sectors.{sectorSize}
-use Rattle.model.specs.Section.{collect}
+use Rattle.octets.specs.Lists.{collect}
 use Rattle.model.specs.World.{Event, aCut, anOpen, aWrite, aFlush, aStep, aRead}
 
 abbrev pub eventSize : ℕ

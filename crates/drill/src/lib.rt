@@ -16,13 +16,13 @@ ghost use lib.ListN.{length, take, replicate};
 ghost use Rattle.octets.specs.Parts.{patch};
 ghost use Rattle.model.specs.Open.{openOf};
 ghost use Rattle.model.specs.Refusal.{openAnswer};
-ghost use Rattle.model.specs.Step.{stepOf};
 ghost use Rattle.model.specs.Tag.{tagOf};
+ghost use Rattle.model.specs.Medium.{mediumOf};
 ghost use Rattle.model.specs.World.{off, on};
 ghost use Rattle.model.specs.World as lists;
 ghost use Rattle.model.specs.Write.{writeOf};
 ghost use Rattle.drill.specs.Script.{shortSize, eventOf, eventsOf};
-ghost use Rattle.drill.specs.Played.{liveOf, worldOf, Turn, Leaves, Plays};
+ghost use Rattle.drill.specs.Played.{setting, liveOf, worldOf, Turn, Leaves, Plays};
 
 // The kinds of event; any other is a read. A short one is made with a loan of a wrong length.
 pub const CUT: u8 = 0;
@@ -138,11 +138,7 @@ fn event_off(r: usize, v: &[u8], st: &mut [u8], kind: u8, sector: usize, fill: u
     ensures { λ m. ⌜ Turn r (now (v .entry)) off (now (st .entry)) (eventOf (length (now (st .entry))) kind sector fill) m (now (v .entry)) (now (st .exit)) ⌝ }
 {
     if kind == OPEN {
-        let answer = open_filled(r, v, st, fill);
-        return Moment {
-            live: live_after(answer),
-            settled: nothing_to_come(answer),
-        };
+        return after_open(open_filled(r, v, st, fill));
     }
     if kind == SHORT_OPEN {
         short_open(r, v, st, fill);
@@ -171,22 +167,16 @@ fn short_open(r: usize, v: &[u8], st: &mut [u8], fill: u8)
     open_filled(r, v, &mut st[..n], fill);
 }
 
-fn live_after(a: OpenAnswer) -> Live
-    ensures { λ r. ⌜ ((st : List ℕ) → liveOf r st ≡ lists.openLive st (openAnswer a)) ⌝ }
+// What is live after an open; it settles where it was taken and reports no store to come.
+fn after_open(a: OpenAnswer) -> Moment
+    ensures { λ m. ⌜ ((v st : List ℕ) → worldOf m v st ≡ lists.byOpen (mediumOf v) st (openAnswer a) .world) ⌝ }
 {
     match a {
-        OpenAnswer::Opened(s, _) => Live::On(s),
-        OpenAnswer::Refused(_) => Live::Off,
-    }
-}
-
-// Whether an open was taken, and reports no store to come.
-fn nothing_to_come(a: OpenAnswer) -> bool
-    ensures { λ r. ⌜ r ≡ lists.openSettles (openAnswer a) ⌝ }
-{
-    match a {
-        OpenAnswer::Opened(_, stores) => stores == 0,
-        OpenAnswer::Refused(_) => false,
+        OpenAnswer::Opened(s, stores) => Moment {
+            live: Live::On(s),
+            settled: stores == 0,
+        },
+        OpenAnswer::Refused(_) => at_rest(Live::Off),
     }
 }
 
@@ -226,7 +216,7 @@ fn event_on(
 }
 
 fn write_event(s: State, st: &mut [u8], sector: usize, bytes: &[u8]) -> Moment
-    ensures { λ m. ⌜ ((v : List ℕ) → worldOf m v (now (st .exit)) ≡ lists.writeWorld v (writeOf tagOf s (now (st .entry)) sector (now (bytes .entry)))) ⌝ }
+    ensures { λ m. ⌜ ((v : List ℕ) → worldOf m v (now (st .exit)) ≡ lists.byWrite (mediumOf v) sector (now (bytes .entry)) (writeOf tagOf s (now (st .entry)) sector (now (bytes .entry))) .world) ⌝ }
 {
     let written = volume::write::write(s, st, sector, bytes);
     let next = written.state;
@@ -249,7 +239,7 @@ fn read_event(s: State, v: &[u8], st: &[u8], kind: u8, sector: usize, fill: u8) 
 
 // A step settles where it says filling.
 fn step_event(s: State, v: &mut [u8], st: &mut [u8]) -> Moment
-    ensures { λ m. ⌜ worldOf m (now (v .exit)) (now (st .exit)) ≡ lists.stepWorld (now (v .entry)) (stepOf s (now (v .entry)) (now (st .entry))) ⌝ }
+    ensures { λ m. ⌜ worldOf m (now (v .exit)) (now (st .exit)) ≡ lists.happens (setting 0) (mediumOf (now (v .entry))) (on s (now (st .entry))) lists.aStep .world ⌝ }
 {
     let stepped = volume::step::step(s, v, st);
     let next = stepped.state;

@@ -5,7 +5,7 @@ use mathlib.Core.Path.{_≡_, refl, ap}
 use native.Mathlib.Nat.{mul-le-mul, mul-le-mul-left, div-add-mod', mod-lt, pow-le-pow-right}
 use native.Mathlib.Omega.{arith}
 use lib.Pow.{pow-pos}
-use Rattle.model.specs.Layout.{entrySize, perSector, sectionSize, runLength, tagArea, sectionAt, needed, layoutOk}
+use Rattle.model.specs.Layout.{mostProvided, entrySize, perSector, sectionSize, runLength, tagArea, sectionAt, needed, layoutOk}
 use Rattle.model.specs.declared.Layout.{Layout}
 use Rattle.model.proofs.Addresses.{Ranged, ranged, section-low, base-room}
 
@@ -37,7 +37,7 @@ module _ (g : Layout) (ok : layoutOk g ≡ true) where
   pub provided-low : 1 ≤ g .provided
   provided-low = R .p-low
 
-  pub provided-high : g .provided ≤ 65536
+  pub provided-high : g .provided ≤ mostProvided
   provided-high = R .p-high
 
   -- ---- products, as the code has them: their value, and a bound
@@ -67,7 +67,7 @@ module _ (g : Layout) (ok : layoutOk g ≡ true) where
       pub place-product : (s % n * g .width ≡ s % runLength g * g .width) × (s % n * g .width ≤ 2 ^ 15 * 32)
       place-product = (ap (λ (x : ℕ). s % x * g .width) is-length, mul-le-mul (within .1) width-high)
 
-      pub runs-product : (a : ℕ) → a ≡ tagArea g → a ≤ 2 ^ 11 → s < 2 ^ 16
+      pub runs-product : (a : ℕ) → a ≡ tagArea g → a ≤ 2 ^ 11 → s < mostProvided
           → (s / n * (a + n) ≡ s / runLength g * (tagArea g + runLength g)) × (s / n * (a + n) ≤ 65535 * 34816)
       runs-product a is-area small l =
           let whole = div-add-mod' s n in

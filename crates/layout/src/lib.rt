@@ -11,7 +11,9 @@ ghost use mathlib.Core.Bool.{true};
 ghost use mathlib.Core.Path.{_≡_};
 ghost use Prim.Native.Nat.{_*_, _^_, _≤_, _<_};
 ghost use lib.ListN.{length};
-ghost use Rattle.model.specs.Layout.{entrySize, perSector, entryCount, sectionSize, sectionAt, runLength, tagArea, runAt, dataAt, tagByte, needed, widthOk, layoutOk};
+ghost use Rattle.model.specs.Layout.{mostProvided, entrySize, perSector, entryCount, sectionSize, sectionAt, runLength, tagArea, runAt, dataAt, tagByte, needed, widthOk, layoutOk};
+ghost use Rattle.model.specs.Section.{Entry};
+ghost use Rattle.model.specs.Store.{mostHomeStores, homeCount};
 ghost use Rattle.model.specs.State.{volumeLoanOk};
 
 // ---- limits
@@ -44,6 +46,9 @@ pub const SUPERBLOCK_SIZE: usize = 8;
 pub const METADATA_SIZE: usize = 8;
 
 const ENTRIES_SIZE: usize = 496;
+
+// The most stores that bring an entry home.
+pub const MOST_HOME_STORES: usize = 2;
 
 // ---- ranges
 
@@ -135,7 +140,7 @@ pub fn tag_area(g: Layout) -> usize
 
 // The first sector of the run that has logical sector s.
 pub fn run_at(g: Layout, s: usize) -> usize
-    requires { ⌜ (layoutOk g ≡ true) × (s < 2 ^ 16) ⌝ }
+    requires { ⌜ (layoutOk g ≡ true) × (s < mostProvided) ⌝ }
     ensures { λ r. ⌜ (r ≡ runAt g s) × (r ≤ 2 ^ 32) ⌝ }
 {
     let length = run_length(g);
@@ -144,7 +149,7 @@ pub fn run_at(g: Layout, s: usize) -> usize
 
 // Where logical sector s lies.
 pub fn data_at(g: Layout, s: usize) -> usize
-    requires { ⌜ (layoutOk g ≡ true) × (s < 2 ^ 16) ⌝ }
+    requires { ⌜ (layoutOk g ≡ true) × (s < mostProvided) ⌝ }
     ensures { λ r. ⌜ (r ≡ dataAt g s) × (r ≤ 2 ^ 33) ⌝ }
 {
     run_at(g, s) + tag_area(g) + s % run_length(g)
@@ -152,10 +157,17 @@ pub fn data_at(g: Layout, s: usize) -> usize
 
 // The byte of the volume at which the tag of logical sector s starts.
 pub fn tag_byte(g: Layout, s: usize) -> usize
-    requires { ⌜ (layoutOk g ≡ true) × (s < 2 ^ 16) ⌝ }
+    requires { ⌜ (layoutOk g ≡ true) × (s < mostProvided) ⌝ }
     ensures { λ r. ⌜ (r ≡ tagByte g s) × (r ≤ 2 ^ 43) ⌝ }
 {
     run_at(g, s) * SECTOR_SIZE + s % run_length(g) * g.width
+}
+
+// How many stores bring an entry for a logical sector home: its data sector, then the sector with its tag.
+pub fn home_stores(g: Layout, sector: u64) -> usize
+    ensures { λ r. ⌜ ((e : Entry) → e .sector ≡ sector → r ≡ homeCount g e) × (0 < r) × (r ≤ mostHomeStores) ⌝ }
+{
+    MOST_HOME_STORES
 }
 
 // The sectors that the layout needs.

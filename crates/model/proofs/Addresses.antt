@@ -13,7 +13,7 @@ use lib.Dec.{leb, eqb}
 use borrow.Author.Tests.{eqb-true, leb-true}
 use Rattle.octets.specs.Parts.{part, patch}
 use Rattle.octets.proofs.Parts.{part-patch-before, part-patch-after}
-use Rattle.model.specs.Layout.{mostReserved, leastShift, mostShift, mostSections, mostProvided, sectionSize, runLength, tagArea, sectionAt, base, runAt, dataAt, tagPlace, tagByte, tagSector, tagOffset, needed, layoutOk, widthOk}
+use Rattle.model.specs.Layout.{mostReserved, leastShift, mostShift, mostSections, mostProvided, sectionSize, runLength, tagArea, sectionAt, base, runAt, dataAt, tagStart, tagByte, tagSector, tagOffset, needed, layoutOk, widthOk}
 use Rattle.model.specs.declared.Layout.{Layout}
 use Rattle.model.specs.Geometry.{Apart, before, behind}
 
@@ -83,7 +83,7 @@ module _ (g : Layout) (R : Ranged g) where
   within s = mod-lt s run-pos
 
   -- a tag ends inside its run's tag area
-  pub tag-in-area : (s : ℕ) → tagPlace g s + g .width ≤ tagArea g * 512
+  pub tag-in-area : (s : ℕ) → tagStart g s + g .width ≤ tagArea g * 512
   tag-in-area s =
       let h : suc (s % runLength g) * g .width ≤ runLength g * g .width = mul-le-mul-right (g .width) (within s) in
       let e : suc (s % runLength g) * g .width ≡ s % runLength g * g .width + g .width = suc-mul (s % runLength g) (g .width) in
@@ -123,7 +123,7 @@ module _ (g : Layout) (R : Ranged g) where
   pub data-tag : (s s′ : ℕ) → Apart (dataAt g s * 512) 512 (tagByte g s′) (g .width)
   data-tag s s′ = go (runs s s′) (within s) (within s′) (tag-in-area s′)
     where
-      go : Runs s s′ → s % runLength g < runLength g → s′ % runLength g < runLength g → tagPlace g s′ + g .width ≤ tagArea g * 512
+      go : Runs s s′ → s % runLength g < runLength g → s′ % runLength g < runLength g → tagStart g s′ + g .width ≤ tagArea g * 512
           → Apart (dataAt g s * 512) 512 (tagByte g s′) (g .width)
       go (lower q l) w w′ t = before (omega arith)
       go (upper q l) w w′ t = behind (omega arith)
@@ -170,7 +170,7 @@ module _ (g : Layout) (R : Ranged g) where
       near e (left l m) = before (rw e (omega arith))
       near e (right l m) = behind (rw e (omega arith))
 
-      go : Runs s s′ → tagPlace g s + g .width ≤ tagArea g * 512 → tagPlace g s′ + g .width ≤ tagArea g * 512
+      go : Runs s s′ → tagStart g s + g .width ≤ tagArea g * 512 → tagStart g s′ + g .width ≤ tagArea g * 512
           → Apart (tagByte g s) (g .width) (tagByte g s′) (g .width)
       go (lower q l) w w′ = before (omega arith)
       go (upper q l) w w′ = behind (omega arith)

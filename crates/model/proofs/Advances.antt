@@ -9,10 +9,11 @@ use Rattle.octets.specs.Answer.{taken, refused}
 use Rattle.octets.specs.Choice.{pick, firstMet}
 use Rattle.model.specs.Layout.{sectionSize}
 use Rattle.model.specs.Section.{Entry}
-use Rattle.model.specs.Store.{Place, storeOf, afterEffect}
+use Rattle.model.specs.Store.{storeOf, RecoveryStep, storing, afterEffect, recoveryStepAt}
 use Rattle.model.specs.State.{Verdict, passed}
-use Rattle.model.specs.Step.{StepResult, stepRows, commitStep, homeStep, recoverPlace, placeAt, phaseStep, stepBy, stepOf}
-use Rattle.model.specs.World.{stepAcknowledges}
+use Rattle.model.specs.Step.{stepRows, phaseStep, stepBy, stepOf}
+use Rattle.model.specs.JournalStep.{commitStep, homeStep, recoverBy}
+use Rattle.model.specs.StepResult.{stepAcknowledges, StepResult}
 use Rattle.model.specs.Advance.{AdvanceResult, storesIn, stepMade, oneMore, advanceFrom}
 use Rattle.model.specs.declared.Phase.{Phase}
 use Rattle.model.specs.declared.Phase.the-variants.{Filling, Committing, WritingBack, Recovering}
@@ -41,14 +42,14 @@ module _ (s : State) (v st : List ℕ) where
   unfolding commitStep
   commit-quiet j = pick-quiet (ltb (j + 1) (sectionSize (s .layout .width))) _ _ (λ q. absurd (omega (arith, q))) (λ q. absurd (omega (arith, q)))
 
-  place-quiet : (k : ℕ) (x : Place) → Quiet (recoverPlace s v st k x)
-  place-quiet k (storeOf x h) = home-quiet (x .entry) h _ _ _
+  place-quiet : (k : ℕ) (x : RecoveryStep) → Quiet (recoverBy s v st k x)
+  place-quiet k (storing (storeOf x h)) = home-quiet (x .entry) h _ _ _
 
   phase-quiet : (p : Phase) → Quiet (phaseStep s v st p)
   phase-quiet Filling = λ q. record { state = refl; volume = refl; staging = refl }
   phase-quiet (Committing j) = commit-quiet j
   phase-quiet (WritingBack i h) = home-quiet _ h _ _ _
-  phase-quiet (Recovering k) = place-quiet k (placeAt (s .layout) v k)
+  phase-quiet (Recovering k) = place-quiet k (recoveryStepAt (s .layout) v k)
 
   by-quiet : (r : Verdict) → Quiet (stepBy s v st r)
   by-quiet (taken x) = phase-quiet (s .phase)

@@ -16,15 +16,18 @@ use Rattle.model.specs.Layout.{sectionSize, sectionAt, base, dataAt, tag
 use Rattle.model.specs.Geometry.{Apart}
 use Rattle.model.specs.Section.{Entry, wholeId, emptySection}
 use Rattle.model.specs.Journal.{usedOf}
-use Rattle.model.specs.Tag.{Tags, tagAt}
+use Rattle.model.specs.Tag.{Tags, TagsOf, tagAt}
 use Rattle.model.specs.State.{passed}
 use Rattle.model.specs.Format.{formatOf}
 use Rattle.model.specs.Open.{openOf}
 use Rattle.model.specs.Step.{stepOf}
 use Rattle.model.specs.Read.{readOf}
 use Rattle.model.specs.Ledger.{Ledger, lastFor, entersNext}
-use Rattle.model.specs.World.{Event, anOpen, aStep, off, on, World, volumeIn, stepAcknowledges, after}
-use Rattle.model.specs.Guarantees.{worldOf, toldOf, Outside}
+use Rattle.model.specs.Medium.{volumeIn}
+use Rattle.model.specs.World.{Event, settingOf, anOpen, aStep, off, on, World, after}
+use Rattle.model.specs.Demand3.{worldAfter, ledgerAfter}
+use Rattle.model.specs.StepResult.{stepAcknowledges}
+use Rattle.model.specs.Guarantees.{Outside}
 use Rattle.model.specs.ReadBack.{AllSized, putBatch, sealedSection, numbered}
 use Rattle.octets.proofs.Parts.{drop-past}
 use Rattle.model.proofs.Addresses.{ranged}
@@ -37,13 +40,13 @@ use Rattle.model.proofs.Reserved.{reserved-unread}
 
 -- ---- demand 3 and what holds beside it: any tag functions, layout and volume, and a list of events that ends in any way
 
-module _ (tags : Tags) (g : Layout) (sized : (s : ℕ) (b : List ℕ) → length (tags (g .width) s b) ≡ g .width) (v : List ℕ)
+module _ (tags : Tags) (g : Layout) (sized : TagsOf tags (g .width)) (v : List ℕ)
     (formatted : formatOf tags g v .answer ≡ passed) (es : List Event) where
   abbrev world : World
-  world = worldOf tags g v es
+  world = worldAfter tags g v es
 
   abbrev told : Ledger
-  told = toldOf tags g v es
+  told = ledgerAfter tags g v es
 
   abbrev volume : List ℕ
   volume = volumeIn (world .medium)
@@ -64,12 +67,12 @@ module _ (tags : Tags) (g : Layout) (sized : (s : ℕ) (b : List ℕ) → length
         ≡ record { answer = taken tt; sector = lastFor (told .batch) (g .provided - 1) (told .contents (g .provided - 1)) }
     last-read p s st loan e l = demand3 tags g sized v formatted es settled .reads s st loan (g .provided - 1) e l (omega arith)
 
-    -- the first reserved sector, and the superblock's last
-    first-kept : sectorAt volume 0 ≡ sectorAt fresh 0
+    -- the first byte, reserved or not, and the superblock's last
+    first-kept : getD volume 0 0 ≡ getD fresh 0 0
     first-kept = demand3 tags g sized v formatted es settled .kept 0 (omega arith)
 
-    superblock-kept : sectorAt volume (g .reserved + 7) ≡ sectorAt fresh (g .reserved + 7)
-    superblock-kept = demand3 tags g sized v formatted es settled .kept (g .reserved + 7) (omega arith)
+    superblock-kept : getD volume (g .reserved * 512 + 4095) 0 ≡ getD fresh (g .reserved * 512 + 4095) 0
+    superblock-kept = demand3 tags g sized v formatted es settled .kept (g .reserved * 512 + 4095) (omega arith)
 
   -- an open with any bytes in staging
   any-opens : (b : ℕ) → world .live ≡ off → (st : List ℕ) → length st ≡ sectionSize (g .width) * 512
@@ -84,11 +87,11 @@ module _ (tags : Tags) (g : Layout) (sized : (s : ℕ) (b : List ℕ) → length
 
   -- open's number exactly: settled after n steps, and not after n − 1
   counts-all : (st : List ℕ) (s : State) (n : ℕ) → world .live ≡ off → openOf tags (g .reserved) volume st .answer ≡ taken (s, n)
-      → after tags (g .reserved) world (anOpen st ∷ replicate n aStep) .settled ≡ eqb n n
+      → after (settingOf tags g) world (anOpen st ∷ replicate n aStep) .settled ≡ eqb n n
   counts-all st s n e o = guaranteed tags g sized v formatted es .counts st s n e o n (omega arith)
 
   counts-none : (st : List ℕ) (s : State) (n : ℕ) → world .live ≡ off → openOf tags (g .reserved) volume st .answer ≡ taken (s, n)
-      → after tags (g .reserved) world (anOpen st ∷ replicate 0 aStep) .settled ≡ eqb 0 n
+      → after (settingOf tags g) world (anOpen st ∷ replicate 0 aStep) .settled ≡ eqb 0 n
   counts-none st s n e o = guaranteed tags g sized v formatted es .counts st s n e o 0 (omega arith)
 
   -- any byte that is no journal's, data's or tag's, and any sector behind the last run

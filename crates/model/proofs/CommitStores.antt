@@ -19,12 +19,13 @@ use Rattle.model.specs.declared.Phase.{Phase}
 use Rattle.model.specs.declared.Phase.the-variants.{Committing}
 use Rattle.model.specs.declared.State.{State}
 use Rattle.model.specs.Layout.{mostSectors, sectionSize, sectionAt, needed}
-use Rattle.model.specs.Section.{collect}
+use Rattle.octets.specs.Lists.{collect}
 use Rattle.model.specs.Journal.{sectionOf, sectionFor, sealed}
-use Rattle.model.specs.State.{volumeLoanOk, replayOk, stateOk, volumeOk, stagingOk}
+use Rattle.model.specs.State.{volumeLoanOk, replayOk, stateOk, volumeOk, stagingOk, inPhase}
 use Rattle.model.specs.Store.{one, afterEffect}
-use Rattle.model.specs.Flush.{inPhase}
-use Rattle.model.specs.Step.{StepResult, commitStep, stepOf}
+use Rattle.model.specs.Step.{stepOf}
+use Rattle.model.specs.JournalStep.{commitStep}
+use Rattle.model.specs.StepResult.{StepResult}
 use Rattle.model.specs.Advance.{AdvanceResult, oneMore, advanceFrom, advanceOf}
 use Rattle.model.specs.ReadBack.{sealedSection, CommitStores}
 use Rattle.model.proofs.Addresses.{ranged, section-low, base-room}

@@ -13,14 +13,15 @@ use Rattle.octets.specs.Choice.{pick}
 use Rattle.model.specs.Guarantees.{Outside}
 use Rattle.octets.specs.Sectors.{sectorAt}
 use Rattle.model.specs.Layout.{entryCount, sectionSize}
-use Rattle.model.specs.Section.{unused, idOf, entryOf, wholeId, greatestIn, allBelow}
+use Rattle.model.specs.Section.{unused, idOf, entryOf, wholeId, greatestIn}
+use Rattle.octets.specs.Lists.{allBelow}
 use Rattle.model.specs.Journal.{sealed, dueIds, sectionOf, greatestId, wholeIds, Replayed, usedOf, replay}
 use Rattle.model.specs.Tag.{Tag}
 use Rattle.model.specs.Ledger.{Write, Contents, entered}
 use Rattle.model.proofs.Replays.{mentions, mentions-append, or-right, Clean, Durable, Pass, tear, commit, pass-starts, durable-map, Which, isTrue, isFalse, which}
 use Rattle.model.proofs.Journals.{id-sealed, entry-sealed, top-section, top-least, due-of, due-le, due-new, Every, writes, writes-append, batchOf, whole-all, whole-not, whole-le, top-ge, top-le, used-batch, used-every, others, was-torn, was-oldest, is-torn, is-newest}
 use Rattle.model.proofs.Homes.{Home}
-use Rattle.model.proofs.Invariant.{Setting, Good, GoodSection, Disk, Staged}
+use Rattle.model.proofs.Invariant.{Premises, Good, GoodSection, Disk, Staged}
 use Rattle.model.specs.declared.Layout.{Layout}
 
 -- two numbers that leave one rest are a divisor apart
@@ -52,7 +53,7 @@ fails (suc n) f e = go (fails n f) (which (allBelow n f)) (which (f n))
     go ih (isTrue q) (isFalse r) = at n (omega arith) r
     go ih (isTrue q) (isTrue r) = absurd (let t : allBelow (suc n) f ≡ true = rw (q, r) in let z : _≡_ {A = ℕ} 0 1 = cc in omega arith)
 
-module _ (tag : Tag) (g : Layout) (v₀ : List ℕ) (X : Setting tag g v₀)
+module _ (tag : Tag) (g : Layout) (v₀ : List ℕ) (X : Premises tag g v₀)
     (u : List ℕ) (c : Contents) (D : Disk tag g v₀ u c) (C : Clean (g .provided) (Home g tag u) c)
     (n m : ℕ) (st : List ℕ) (S : Staged tag g v₀ st n) (given : m < 2 ^ 64 - 1) (nxt : m ≡ greatestId g u + 1)
     (w : List ℕ) (landed : ℕ → Bool)

@@ -22,11 +22,11 @@ use Rattle.model.proofs.Replays.{Pass}
 use Rattle.model.proofs.Journals.{length-sealed, batchOf}
 use Rattle.model.proofs.Addresses.{section-low, base-room}
 use Rattle.model.proofs.Homes.{Home}
-use Rattle.model.proofs.Invariant.{Setting, Disk, slot, Landed, new, old, Torn, AtCommit, AtHome}
+use Rattle.model.proofs.Invariant.{Premises, Disk, slot, Landed, new, old, Torn, AtCommit, AtHome}
 use Rattle.model.proofs.Cuts.{whole-disk, whole-top, whole-named, whole-starts}
 use Rattle.model.specs.declared.Layout.{Layout}
 
-module _ (tag : Tag) (g : Layout) (v₀ : List ℕ) (X : Setting tag g v₀)
+module _ (tag : Tag) (g : Layout) (v₀ : List ℕ) (X : Premises tag g v₀)
     (v : List ℕ) (l : Ledger) (n m j : ℕ) (st : List ℕ) (A : AtCommit tag g v₀ v l n m j st) where
   module _ (p : j < sectionSize (g .width)) where
     abbrev c : List ℕ
@@ -68,7 +68,7 @@ module _ (tag : Tag) (g : Layout) (v₀ : List ℕ) (X : Setting tag g v₀)
             subst (Landed tag g v₀ (A .u) st m (j + 1) i) (sym (elsewhere (slot tag g v₀ m + i) (omega arith)))
             (more i (sectorAt v (slot tag g v₀ m + i)) (A .torn .each i h))
 
-    pub commit-goes : (l′ : Ledger) → l .contents ≡ l′ .contents → l .batch ≡ l′ .batch → l′ .due ≡ (sectionSize (g .width) - (j + 1)) ∷ []
+    pub commit-goes : (l′ : Ledger) → l .contents ≡ l′ .contents → l .batch ≡ l′ .batch → l′ .toCome ≡ (sectionSize (g .width) - (j + 1)) ∷ []
         → AtCommit tag g v₀ w l′ n m (j + 1) st
     commit-goes l′ ec eb ed =
         record {
@@ -77,7 +77,7 @@ module _ (tag : Tag) (g : Layout) (v₀ : List ℕ) (X : Setting tag g v₀)
           some = A .some;
           given = A .given;
           place = omega arith;
-          due = ed;
+          toCome = ed;
           u = A .u;
           disk = rw ec at (A .disk);
           clean = rw ec at (A .clean);
@@ -100,13 +100,13 @@ module _ (tag : Tag) (g : Layout) (v₀ : List ℕ) (X : Setting tag g v₀)
         subst (λ (b : List Write). Disk tag g v₀ v (entered (l .contents) b)) (A .batch)
         (whole-disk tag g v₀ X (A .u) (l .contents) (A .disk) (A .clean) n m st (A .staged) (A .given) (A .next) j v (A .torn) all)
 
-    pub seal-ends : (l′ : Ledger) → l′ .contents ≡ entered (l .contents) (l .batch) → l′ .batch ≡ [] → l′ .due ≡ []
+    pub seal-ends : (l′ : Ledger) → l′ .contents ≡ entered (l .contents) (l .batch) → l′ .batch ≡ [] → l′ .toCome ≡ []
         → AtHome tag g v₀ v l′ n (m + 1) 0 0 st
     seal-ends l′ ec eb ed =
         record {
           staged = A .staged;
           empty = eb;
-          due = ed;
+          toCome = ed;
           next = ap (λ (x : ℕ). x + 1)
               (sym (whole-top tag g v₀ X (A .u) (l .contents) (A .disk) (A .clean) n m st (A .staged) (A .given) (A .next) j v (A .torn) all));
           place = A .some;

@@ -15,18 +15,21 @@ use Rattle.octets.proofs.Parts.{part-part, same-true, eq-same}
 use Rattle.octets.proofs.Sectors.{sector-part}
 use Rattle.model.specs.Geometry.{Apart, before, behind}
 use Rattle.model.specs.Layout.{sectionSize, sectionAt, base, dataAt, tagSector, tagOffset}
-use Rattle.model.specs.Section.{idOf, allBelow}
+use Rattle.model.specs.Section.{idOf}
+use Rattle.octets.specs.Lists.{allBelow}
 use Rattle.model.specs.Journal.{sealed, sectionOf, greatestId, replay}
 use Rattle.model.specs.Tag.{Tag, tagAt}
 use Rattle.model.specs.Ledger.{Contents, Ledger, entered}
+use Rattle.model.specs.Medium.{Medium, volumeIn}
 use Rattle.model.specs.World.{Live}
+use Rattle.model.specs.declared.Phase.the-variants.{Committing}
 use Rattle.model.proofs.Replays.{mentions, Clean, Pass, Which, isTrue, isFalse, which}
 use Rattle.model.proofs.Journals.{top-section, id-sealed, top-ge, writes, batchOf, below-all}
 use Rattle.model.proofs.Addresses.{tag-sector, tag-inside, data-high, tag-high, section-apart, section-low}
 use Rattle.model.proofs.Volumes.{sectors-ext, volume-ext, getD-sector}
 use Rattle.model.specs.Guarantees.{Outside}
 use Rattle.model.proofs.Homes.{Home}
-use Rattle.model.proofs.Invariant.{Setting, Disk, Staged, slot, Landed, new, old, Torn, AtCommit, Lives, stopped, filling, committing, writingBack, recovering}
+use Rattle.model.proofs.Invariant.{Premises, Disk, Staged, slot, Landed, new, old, Torn, AtCommit, Lives, stopped, working, inFilling, inCommitting, inWritingBack, inRecovering}
 use Rattle.model.proofs.Commits.{Fails, at, fails, disk-some, disk-all, top-now, batch-named, batch-starts}
 use Rattle.model.specs.declared.Layout.{Layout}
 
@@ -42,7 +45,7 @@ not-true : (t : Bool) → not t ≡ true → t ≡ false
 not-true true e = sym e
 not-true false e = refl
 
-module _ (tag : Tag) (g : Layout) (v₀ : List ℕ) (X : Setting tag g v₀) where
+module _ (tag : Tag) (g : Layout) (v₀ : List ℕ) (X : Premises tag g v₀) where
   -- a tag lies in one sector
   tag-in : (y : List ℕ) (s : ℕ) → tagAt g y s ≡ part (sectorAt y (tagSector g s)) (tagOffset g s) (g .width)
   tag-in y s =
@@ -174,9 +177,9 @@ module _ (tag : Tag) (g : Layout) (v₀ : List ℕ) (X : Setting tag g v₀) whe
 
   -- ---- a cut at any time: the volume is durable
 
-  pub cuts : (v : List ℕ) (l : Ledger) (x : Live) → Lives tag g v₀ v l x → Disk tag g v₀ v (l .contents)
-  cuts v l x (stopped D b d) = D
-  cuts v l x (filling n m st D A) = D
-  cuts v l x (committing n m j st p A) = commit-cut v l n m j st p A
-  cuts v l x (writingBack n m i h st D A) = D
-  cuts v l x (recovering m k st D A) = D
+  pub cuts : (d : Medium) (l : Ledger) (x : Live) → Lives tag g v₀ d l x → Disk tag g v₀ (volumeIn d) (l .contents)
+  cuts d l x (stopped D b e) = D
+  cuts d l x (working n m _ st (inFilling D A)) = D
+  cuts d l x (working n m (Committing j) st (inCommitting p A)) = commit-cut (volumeIn d) l n m j st p A
+  cuts d l x (working n m _ st (inWritingBack D A)) = D
+  cuts d l x (working n m _ st (inRecovering D A)) = D

@@ -18,32 +18,38 @@ use Rattle.octets.specs.Parts.{same}
 use Rattle.octets.specs.Sectors.{sectorAt}
 use Rattle.octets.proofs.Parts.{eq-same}
 use Rattle.octets.proofs.Sectors.{sector-part}
-use Rattle.model.specs.Layout.{sectionSize, sectionAt, dataAt}
+use Rattle.model.specs.Layout.{mostSectors, sectionSize, sectionAt, dataAt}
 use Rattle.model.specs.Section.{idOf, entryOf, emptySection, greatestIn}
 use Rattle.model.specs.Journal.{greatestId, dueIds, sectionOf, wholeIds, ordered, replayIn, replay}
-use Rattle.model.specs.State.{isFilling, passed}
+use Rattle.model.specs.State.{sectorOk, passed}
 use Rattle.model.specs.Tag.{Tag, Tags, tagOf, tagAt}
 use Rattle.model.specs.Read.{newest, staged, readRows, readOf}
 use Rattle.model.specs.Ledger.{start, lastFor, Ledger, note, noteAll}
-use Rattle.model.specs.World.{Event, Live, off, on, World, aCut, anOpen, aWrite, aFlush, aStep, aRead, begin, unmoved, play, tell, next, noted, after, transcript}
+use Rattle.model.specs.Medium.{Medium, mediumOf, volumeIn}
+use Rattle.model.specs.World.{Event, Setting, settingOf, Live, off, on, World, aCut, anOpen, aWrite, aFlush, aStep, aNextStore, aRead, resting, begin, Happened, byStep, happens, next, noted, after, transcript}
+use Rattle.model.specs.Store.{contentOf}
+use Rattle.model.specs.StepResult.{StepResult}
+use Rattle.model.specs.JournalStep.{commitSteps}
+use Rattle.model.specs.Step.{stepOf}
+use Rattle.model.specs.NextStore.{storeNamed}
 use Rattle.model.specs.Format.{formatOf}
 use Rattle.model.specs.Open.{openBy}
 use Rattle.model.specs.Guarantees.{OpensFresh, FreshOpens}
 use Rattle.model.specs.Demand3.{Agrees, Demand3, Demand3Sha256}
 use Rattle.model.proofs.Formats.{Fresh, format-layout, format-fresh}
-use Rattle.model.proofs.Replays.{lastFor-append}
+use Rattle.model.proofs.Replays.{lastFor-append, Which, which, isTrue, isFalse}
 use Rattle.model.proofs.Sections.{per-pos}
 use Rattle.model.proofs.Journals.{due-le, top-least, writeOfEntry, batchOf, top-le, whole-le}
 use Rattle.model.proofs.Addresses.{and-both, ranged, section-low}
 use Rattle.model.proofs.Homes.{Home}
-use Rattle.model.proofs.Invariant.{Setting, low-kept, stateAt, Disk, AtFilling, Lives, stopped}
+use Rattle.model.proofs.Invariant.{Premises, before-journal, stateAt, Disk, AtFilling, Lives, stopped}
 use Rattle.model.proofs.Cuts.{and-false, cuts}
-use Rattle.model.proofs.Steps.{Inv, never, Fills, FillsLive, sound, sound-volume, sound-staging, step-keeps}
+use Rattle.model.proofs.Steps.{Inv, Leads, never, fillingIn, sound, sound-volume, sound-staging, step-keeps}
 use Rattle.model.proofs.Batches.{Filled, it, filled, write-keeps, flush-keeps}
+use Rattle.model.proofs.NextStore.{next-told, next-refused, step-stores}
 use Rattle.model.proofs.Opens.{open-runs, query-holds, open-keeps}
 use Rattle.model.specs.declared.Layout.{Layout}
-use Rattle.model.specs.declared.Phase.{Phase}
-use Rattle.model.specs.declared.Phase.the-variants.{Filling, Committing, WritingBack, Recovering}
+use Rattle.model.specs.declared.Phase.the-variants.{Filling}
 use Rattle.model.specs.declared.State.{State}
 
 ordered-none : (n : ℕ) (ids : ℕ → ℕ) → ((k : ℕ) → k < n → ids k ≡ 0) → ordered n ids ≡ []
@@ -60,10 +66,10 @@ newest-last t st (suc n) s d =
 module _ (tag : Tag) (g : Layout) (sz : (s : ℕ) (b : List ℕ) → length (tag s b) ≡ g .width) (v₀ : List ℕ) (F : Fresh tag g v₀) where
   whole-sectors : length v₀ ≡ length v₀ / 512 * 512
   whole-sectors =
-      let z = and-both (eqb (length v₀ % 512) 0) (leb (length v₀) (65536 * 512)) (F .wholes) in
+      let z = and-both (eqb (length v₀ % 512) 0) (leb (length v₀) (mostSectors * 512)) (F .wholes) in
       omega (arith, eqb-true (length v₀ % 512) 0 (z .0))
 
-  pub setting : Setting tag g v₀
+  pub setting : Premises tag g v₀
   setting =
       record {
         layout = F .layout;
@@ -79,7 +85,7 @@ module _ (tag : Tag) (g : Layout) (sz : (s : ℕ) (b : List ℕ) → length (tag
 
 -- ---- the start: nothing is to be replayed, and every sector is home with zeros
 
-module _ (tags : Tags) (g : Layout) (v₀ : List ℕ) (X : Setting (tags (g .width)) g v₀) (F : Fresh (tags (g .width)) g v₀) where
+module _ (tags : Tags) (g : Layout) (v₀ : List ℕ) (X : Premises (tags (g .width)) g v₀) (F : Fresh (tags (g .width)) g v₀) where
   zero-id : idOf (replicate 512 0) ≡ 0
   zero-id = refl
 
@@ -122,58 +128,72 @@ module _ (tags : Tags) (g : Layout) (v₀ : List ℕ) (X : Setting (tags (g .wid
   pub opens-fresh : OpensFresh tags g v₀
   opens-fresh =
       record {
-        queried = query-holds tags g v₀ X v₀ start fresh-disk;
+        queried = query-holds tags g v₀ X (mediumOf v₀) start fresh-disk;
         opened = λ st e.
-            open-runs tags g v₀ X v₀ start fresh-disk st (sound-staging (tags (g .width)) g v₀ X st e)
+            open-runs tags g v₀ X (mediumOf v₀) start fresh-disk st (sound-staging (tags (g .width)) g v₀ X st e)
             ∙ ap (λ (a : Answer ℕ (State × ℕ)). record { answer = a; staging = emptySection (g .width) }) opened-fresh;
       }
 
 -- ---- every event keeps the invariant
 
-module _ (tags : Tags) (g : Layout) (v₀ : List ℕ) (X : Setting (tags (g .width)) g v₀) where
+module _ (tags : Tags) (g : Layout) (v₀ : List ℕ) (X : Premises (tags (g .width)) g v₀) where
   abbrev tag : Tag
   tag = tags (g .width)
+
+  abbrev x : Setting
+  x = settingOf tags g
 
   abbrev pub I : World → Ledger → Type 0
   I = Inv tag g v₀ X
 
   -- ---- an event
 
-  abbrev pub M : ℕ
-  M = sectionSize (g .width)
+  abbrev pub EventLeads : Medium → Ledger → Live → Event → Type 0
+  EventLeads d l y e = Leads tag g v₀ X l (happens x d y e)
 
-  abbrev pub EventLeads : List ℕ → Ledger → Live → Event → Type 0
-  EventLeads v l x e = I (play tags (g .reserved) v x e) (note M l (tell tags (g .reserved) v x e))
+  kept-as : (d : Medium) (l : Ledger) (y : Live) → Lives tag g v₀ d l y → I (resting d y) l
+  kept-as d l y A = record { lives = A; fills = λ q. never q }
 
-  kept-as : (v : List ℕ) (l : Ledger) (x : Live) → Lives tag g v₀ v l x → I (unmoved v x) l
-  kept-as v l x A = record { lives = A; fills = λ q. never q }
+  opens : (d : Medium) (l : Ledger) (st : List ℕ) (y : Live) → Lives tag g v₀ d l y → EventLeads d l y (anOpen st)
+  opens d l st off (stopped D b c) = open-keeps tags g v₀ X d l D st b c
+  opens d l st (on s z) A = kept-as d l (on s z) A
 
-  opens : (v : List ℕ) (l : Ledger) (st : List ℕ) (x : Live) → Lives tag g v₀ v l x → EventLeads v l x (anOpen st)
-  opens v l st off (stopped D b d) = open-keeps tags g v₀ X v l D st b d
-  opens v l st (on s y) A = kept-as v l (on s y) A
+  -- a step whose store the owner makes is the step; with a loan of a wrong length it is refused
+  owners : (d : Medium) (l : Ledger) (s : State) (st b : List ℕ) → Lives tag g v₀ d l (on s st) → EventLeads d l (on s st) (aNextStore b)
+  owners d l s st b A = go (which (sectorOk b))
+    where
+      v : List ℕ
+      v = volumeIn d
 
-  reading : (v : List ℕ) (l : Ledger) (n : ℕ) (loan : List ℕ) (x : Live) → Lives tag g v₀ v l x → EventLeads v l x (aRead n loan)
-  reading v l n loan off A = kept-as v l off A
-  reading v l n loan (on s st) A = kept-as v l (on s st) A
+      told : StepResult → Happened
+      told o = byStep (mediumOf (storeNamed v (o .answer) (contentOf b (o .effect)))) o
 
-  pub plays : (v : List ℕ) (l : Ledger) (ev : Event) (x : Live) → Lives tag g v₀ v l x → EventLeads v l x ev
-  plays v l aCut x A = record { lives = stopped (cuts tag g v₀ X v l x A) refl refl; fills = λ q. never q }
-  plays v l (anOpen st) x A = opens v l st x A
-  plays v l (aWrite n b) off A = kept-as v l off A
-  plays v l (aWrite n b) (on s st) A = write-keeps tags g v₀ X v l s st n b A
-  plays v l aFlush off A = kept-as v l off A
-  plays v l aFlush (on s st) A = flush-keeps tags g v₀ X v l s st A
-  plays v l aStep off A = kept-as v l off A
-  plays v l aStep (on s st) A = step-keeps tag g v₀ X v l s st A
-  plays v l (aRead n b) x A = reading v l n b x A
+      go : Which (sectorOk b) → EventLeads d l (on s st) (aNextStore b)
+      go (isTrue t) =
+          subst (λ (o : StepResult). Leads tag g v₀ X l (told o)) (sym (next-told s v st b t))
+          (subst (λ (w : List ℕ). Leads tag g v₀ X l (byStep (mediumOf w) (stepOf s v st))) (sym (step-stores s v st .made b)) (step-keeps tag g v₀ X d l s st A))
+      go (isFalse f) = subst (λ (o : StepResult). Leads tag g v₀ X l (told o)) (sym (next-refused s v st b f)) (kept-as d l (on s st) A)
+
+  pub plays : (d : Medium) (l : Ledger) (e : Event) (y : Live) → Lives tag g v₀ d l y → EventLeads d l y e
+  plays d l aCut y A = record { lives = stopped (cuts tag g v₀ X d l y A) refl refl; fills = λ q. never q }
+  plays d l (anOpen st) y A = opens d l st y A
+  plays d l (aWrite n b) off A = kept-as d l off A
+  plays d l (aWrite n b) (on s st) A = write-keeps tags g v₀ X d l s st n b A
+  plays d l aFlush off A = kept-as d l off A
+  plays d l aFlush (on s st) A = flush-keeps tags g v₀ X d l s st A
+  plays d l aStep off A = kept-as d l off A
+  plays d l aStep (on s st) A = step-keeps tag g v₀ X d l s st A
+  plays d l (aNextStore b) off A = kept-as d l off A
+  plays d l (aNextStore b) (on s st) A = owners d l s st b A
+  plays d l (aRead n b) off A = kept-as d l off A
+  plays d l (aRead n b) (on s st) A = kept-as d l (on s st) A
 
   -- ---- a list of events: the world and the ledger, side by side
 
-  pub lasts : (w : World) (l : Ledger) (es : List Event) → I w l → I (after tags (g .reserved) w es) (noteAll M l (transcript tags (g .reserved) w es))
+  pub lasts : (w : World) (l : Ledger) (es : List Event) → I w l → I (after x w es) (noteAll (commitSteps g) l (transcript x w es))
   unfolding after transcript
   lasts w l [] J = J
-  lasts w l (ev ∷ es) J =
-      lasts (next tags (g .reserved) w ev) (note M l (noted tags (g .reserved) w ev)) es (plays (w .medium) l ev (w .live) (J .lives))
+  lasts w l (e ∷ es) J = lasts (next x w e) (note (commitSteps g) l (noted x w e)) es (plays (w .medium) l e (w .live) (J .lives))
 
   -- ---- what a quiet world agrees with
 
@@ -204,29 +224,19 @@ module _ (tags : Tags) (g : Layout) (v₀ : List ℕ) (X : Setting (tags (g .wid
       rw (read-passes v l n m st D A k loan e h)
       (ap (λ (b : List ℕ). record { answer = passed; sector = b }) (newest-last (g .width) st n k (sectorAt v (dataAt g k)) ∙ rw (A .batch, A .clean k h .0)))
 
-  settled-filling : (v : List ℕ) (l : Ledger) (s : State) (st : List ℕ) → Lives tag g v₀ v l (on s st) → FillsLive (on s st)
-      → Filled tags g v₀ X v l s st
-  settled-filling v l s st A f = filled tags g v₀ X v l s st A (go (s .phase) f)
-    where
-      go : (p : Phase) → Fills p → isFilling p ≡ true
-      go Filling f = refl
-      go (Committing j) f = absurd f
-      go (WritingBack i h) f = absurd f
-      go (Recovering k) f = absurd f
+  module _ (d : Medium) (l : Ledger) where
+    reads-from : (s : State) (st : List ℕ) → Filled tags g v₀ X d l s st → (k : ℕ) (loan : List ℕ) → length loan ≡ 512 → k < g .provided
+        → readOf tags s (volumeIn d) st k loan ≡ record { answer = passed; sector = lastFor (l .batch) k (l .contents k) }
+    reads-from s st (it n m _ D A) = read-gives (volumeIn d) l n m st D A
 
-  reads-from : (v : List ℕ) (l : Ledger) (s : State) (st : List ℕ) → Filled tags g v₀ X v l s st
-      → (k : ℕ) (loan : List ℕ) → length loan ≡ 512 → k < g .provided
-      → readOf tags s v st k loan ≡ record { answer = passed; sector = lastFor (l .batch) k (l .contents k) }
-  reads-from v l s st (it n m _ D A) = read-gives v l n m st D A
+    homes-from : (s : State) (st : List ℕ) → Filled tags g v₀ X d l s st
+        → Disk tag g v₀ (volumeIn d) (l .contents) × ((k : ℕ) → k < g .provided → Home g tag (volumeIn d) k (l .contents k))
+    homes-from s st (it n m _ D A) = (D, A .clean)
 
-  homes-from : (v : List ℕ) (l : Ledger) (s : State) (st : List ℕ) → Filled tags g v₀ X v l s st
-      → Disk tag g v₀ v (l .contents) × ((k : ℕ) → k < g .provided → Home g tag v k (l .contents k))
-  homes-from v l s st (it n m _ D A) = (D, A .clean)
-
-  all-home : (v : List ℕ) (l : Ledger) (x : Live) → Lives tag g v₀ v l x → FillsLive x
-      → Disk tag g v₀ v (l .contents) × ((k : ℕ) → k < g .provided → Home g tag v k (l .contents k))
-  all-home v l off A f = absurd f
-  all-home v l (on s st) A f = homes-from v l s st (settled-filling v l s st A f)
+    all-home : (y : Live) → Lives tag g v₀ d l y → fillingIn y ≡ true
+        → Disk tag g v₀ (volumeIn d) (l .contents) × ((k : ℕ) → k < g .provided → Home g tag (volumeIn d) k (l .contents k))
+    all-home off A f = never f
+    all-home (on s st) A f = homes-from s st (filled tags g v₀ X d l s st A f)
 
   agrees : (w : World) (l : Ledger) → I w l → w .settled ≡ true → Agrees tags g v₀ w l
   agrees w l J q =
@@ -236,9 +246,8 @@ module _ (tags : Tags) (g : Layout) (v₀ : List ℕ) (X : Setting (tags (g .wid
         fits = λ s h. a .1 s h .1;
         reads = λ s st loan n e k h.
             reads-from (w .medium) l s st
-            (settled-filling (w .medium) l s st
-            (subst (Lives tag g v₀ (w .medium) l) e (J .lives)) (subst FillsLive e (J .fills q))) n loan k h;
-        kept = λ a′ h. low-kept tag g v₀ (X .ranged) (w .medium) (l .contents) (a .0) (a′ * 512) 512 (omega arith);
+            (filled tags g v₀ X (w .medium) l s st (subst (Lives tag g v₀ (w .medium) l) e (J .lives)) (ap fillingIn (sym e) ∙ J .fills q)) n loan k h;
+        kept = λ b h. a .0 .kept b (before-journal g (X .ranged) b h);
       }
 
 -- DEMAND 3
@@ -246,7 +255,7 @@ pub demand3 : Demand3
 demand3 tags g sz v e es q =
     let F : Fresh (tags (g .width)) g (formatOf tags g v .volume) = format-fresh tags g v sz e in
     let v₀ : List ℕ = formatOf tags g v .volume in
-    let X : Setting (tags (g .width)) g (formatOf tags g v .volume) = setting (tags (g .width)) g sz (formatOf tags g v .volume) F in
+    let X : Premises (tags (g .width)) g (formatOf tags g v .volume) = setting (tags (g .width)) g sz (formatOf tags g v .volume) F in
     agrees tags g v₀ X _ _ (lasts tags g v₀ X (begin v₀) start es (starts tags g v₀ X F)) q
 
 -- document 01's tag has T bytes, for every T in range

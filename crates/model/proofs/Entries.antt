@@ -6,20 +6,20 @@ use mathlib.Core.Path.{_≡_, sym, ap, _∙_, subst}
 use native.Mathlib.Decide.{decLt}
 use native.Mathlib.Omega.{arith}
 use lib.Dec.{eqb}
-use lib.ListN.{length, getD, length-append, List·getD-append}
+use lib.ListN.{length, getD, length-append, List·getD-append, List·getD-map}
 use lib.Seq.{getD-append-add}
 use Rattle.octets.specs.Choice.{pick}
 use Rattle.octets.proofs.Parts.{length-part}
 use Rattle.model.specs.declared.Layout.{Layout}
 use Rattle.model.specs.Layout.{entryCount, sectionSize, sectionAt, needed}
-use Rattle.model.specs.Section.{unused, entryOf, collect}
+use Rattle.model.specs.Section.{unused, entryOf}
+use Rattle.octets.specs.Lists.{collect}
 use Rattle.model.specs.Journal.{Replayed, usedEntry, usedOf, sectionOf, replay}
-use Rattle.model.specs.Store.{homeCount, Place, storeOf, placesOf, plan, storesOf}
-use Rattle.model.specs.Step.{noPlace}
+use Rattle.model.specs.Store.{homeCount, EntryStore, storeOf, storesOfEntry, entryStores, storesOf, RecoveryStep, storing, recoverySteps, stepsOf, noStore}
 use Rattle.model.proofs.Addresses.{Ranged, section-low, base-room}
 use Rattle.model.proofs.Sections.{bytes-length, tag-length}
 use Rattle.model.proofs.Journals.{Every, every-append, every-replay}
-use Rattle.model.proofs.Plans.{length-places, get-places}
+use Rattle.model.proofs.Plans.{length-stores, get-stores, steps-stores}
 
 pub record Complete (g : Layout) (x : Replayed) : Type 0 where
   pub whole : length (x .entry .bytes) ≡ 512
@@ -38,7 +38,7 @@ module _ (g : Layout) (R : Ranged g) (v : List ℕ) (room : needed g * 512 ≤ l
       size : length sec ≡ sectionSize t * 512
       size = length-part v (sectionAt g k * 512) (sectionSize t * 512) (omega (arith, section-low g R k l, base-room g R))
 
-      one : (i : ℕ) → i < entryCount t → (b : Bool) → Every (Complete g) (pick b [] (record { section = k; place = i; entry = entryOf t sec i } ∷ []))
+      one : (i : ℕ) → i < entryCount t → (b : Bool) → Every (Complete g) (pick b [] (record { section = k; index = i; entry = entryOf t sec i } ∷ []))
       one i m true = tt
       one i m false = (record { whole = bytes-length t i (R .t .bound) m sec size; sized = tag-length t i (R .t .bound) m sec size }, tt)
 
@@ -51,26 +51,35 @@ module _ (g : Layout) (R : Ranged g) (v : List ℕ) (room : needed g * 512 ≤ l
   pub replay-complete : Every (Complete g) (replay g v)
   replay-complete = every-replay g v (Complete g) (λ k l n. used-complete k l)
 
--- a place of a replay is a store of one of its entries
-abbrev pub PlaceOf : Layout → (Replayed → Type 0) → Place → Type 0
-PlaceOf g Q (storeOf x h) = Q x × (h < homeCount g (x .entry))
+-- a store of a replay is one of its entries', and so is a step of a recovery
+abbrev pub StoreFor : Layout → (Replayed → Type 0) → EntryStore → Type 0
+StoreFor g Q (storeOf x h) = Q x × (h < homeCount g (x .entry))
 
-pub place-every : (g : Layout) (Q : Replayed → Type 0) (xs : List Replayed) → Every Q xs → (k : ℕ) → k < storesOf g xs → PlaceOf g Q (getD (plan g xs) k noPlace)
-place-every g Q [] p k l = absurd (omega arith)
-place-every g Q (x ∷ xs) p k l = go (decLt k (homeCount g (x .entry))) (place-every g Q xs (p .1) (k - homeCount g (x .entry)))
+pub store-every : (g : Layout) (Q : Replayed → Type 0) (xs : List Replayed) → Every Q xs → (k : ℕ) → k < storesOf g xs → StoreFor g Q (getD (entryStores g xs) k noStore)
+store-every g Q [] p k l = absurd (omega arith)
+store-every g Q (x ∷ xs) p k l = go (decLt k (homeCount g (x .entry))) (store-every g Q xs (p .1) (k - homeCount g (x .entry)))
   where
-    count : length (placesOf g x) ≡ homeCount g (x .entry)
-    count = length-places (storeOf x) (homeCount g (x .entry))
+    count : length (storesOfEntry g x) ≡ homeCount g (x .entry)
+    count = length-stores (storeOf x) (homeCount g (x .entry))
 
     go : Dec (k < homeCount g (x .entry))
-        → (k - homeCount g (x .entry) < storesOf g xs → PlaceOf g Q (getD (plan g xs) (k - homeCount g (x .entry)) noPlace))
-        → PlaceOf g Q (getD (placesOf g x ++ plan g xs) k noPlace)
+        → (k - homeCount g (x .entry) < storesOf g xs → StoreFor g Q (getD (entryStores g xs) (k - homeCount g (x .entry)) noStore))
+        → StoreFor g Q (getD (storesOfEntry g x ++ entryStores g xs) k noStore)
     go (yes h) ih =
-        subst (PlaceOf g Q)
-        (sym (List·getD-append (placesOf g x) (plan g xs) noPlace k (omega (arith, count)) ∙ get-places (storeOf x) (homeCount g (x .entry)) k h)) (p .0, h)
+        subst (StoreFor g Q)
+        (sym (List·getD-append (storesOfEntry g x) (entryStores g xs) noStore k (omega (arith, count)) ∙ get-stores (storeOf x) (homeCount g (x .entry)) k h)) (p .0, h)
     go (no h) ih =
-        let on : length (placesOf g x) + (k - homeCount g (x .entry)) ≡ k = omega (arith, count) in
-        subst (PlaceOf g Q)
-        (sym (getD-append-add (placesOf g x) (plan g xs) (k - homeCount g (x .entry)) noPlace)
-        ∙ ap (λ (n : ℕ). getD (placesOf g x ++ plan g xs) n noPlace) on)
-        (ih (omega (arith, count, length-append (placesOf g x) (plan g xs))))
+        let on : length (storesOfEntry g x) + (k - homeCount g (x .entry)) ≡ k = omega (arith, count) in
+        subst (StoreFor g Q)
+        (sym (getD-append-add (storesOfEntry g x) (entryStores g xs) (k - homeCount g (x .entry)) noStore)
+        ∙ ap (λ (n : ℕ). getD (storesOfEntry g x ++ entryStores g xs) n noStore) on)
+        (ih (omega (arith, count, length-append (storesOfEntry g x) (entryStores g xs))))
+
+abbrev pub StepFor : Layout → (Replayed → Type 0) → RecoveryStep → Type 0
+StepFor g Q (storing x) = StoreFor g Q x
+
+pub step-every : (g : Layout) (Q : Replayed → Type 0) (xs : List Replayed) → Every Q xs → (k : ℕ) → k < stepsOf g xs
+    → StepFor g Q (getD (recoverySteps g xs) k (storing noStore))
+step-every g Q xs p k l =
+    subst (StepFor g Q) (sym (List·getD-map storing (entryStores g xs) k noStore))
+    (store-every g Q xs p k (omega (arith, steps-stores g xs)))

@@ -15,7 +15,7 @@ use Rattle.octets.specs.Parts.{part}
 use Rattle.octets.specs.Sectors.{sectorAt}
 use Rattle.octets.proofs.Parts.{part-append-left, take-replicate, drop-replicate, part-part}
 use Rattle.model.specs.Layout.{sectionSize, sectionAt, base, runLength, tagArea, dataAt, tagByte, needed, layoutOk}
-use Rattle.model.specs.Section.{collect}
+use Rattle.octets.specs.Lists.{collect}
 use Rattle.model.specs.Superblock.{superblockOf, superblockAt}
 use Rattle.model.proofs.Sections.{length-collect, part-collect}
 use Rattle.model.specs.Tag.{Tag, Tags, tagAt}

@@ -16,7 +16,8 @@ use Rattle.model.specs.Layout.{sectionSize, sectionAt, base, dataAt, tag
 use Rattle.model.specs.Section.{Entry}
 use Rattle.model.specs.Journal.{sectionOf}
 use Rattle.model.specs.Tag.{Tag, tagAt}
-use Rattle.model.specs.Store.{homeStore, made}
+use Rattle.model.specs.Store.{homeCount, homeStore, made}
+use Rattle.model.proofs.Plans.{home-two}
 use Rattle.model.proofs.Replays.{Holds, Frame}
 use Rattle.model.proofs.Addresses.{part-apart, Ranged, data-tag, data-data, tag-tag, tag-sector, tag-inside, data-high, tag-high, data-room, tag-room, section-apart, section-low, base-room}
 use Rattle.model.specs.declared.Layout.{Layout}
@@ -43,29 +44,29 @@ module _ (g : Layout) (R : Ranged g) (tag : Tag) (v : List ℕ) (room : needed g
       (omega (arith, tag-inside g R (e .sector))) (omega (arith, tag-room g R (e .sector) low))
       ∙ ap (λ (x : ℕ). patch v x (e .tag)) (tag-sector g R (e .sector))
 
-  pub home-length : (h : ℕ) → h < 2 → length (made v (homeStore g v e h)) ≡ length v
+  pub home-length : (h : ℕ) → h < homeCount g e → length (made v (homeStore g v e h)) ≡ length v
   home-length zero l = length-patch v (dataAt g (e .sector) * 512) (e .bytes) data-fits
   home-length (suc zero) l = ap length tag-store ∙ length-patch v (tagByte g (e .sector)) (e .tag) tag-fits
-  home-length (suc (suc h)) l = absurd (omega arith)
+  home-length (suc (suc h)) l = absurd (omega (arith, home-two g e))
 
   -- what lies before the runs
-  pub home-low : (h : ℕ) → h < 2 → (b m : ℕ) → b + m ≤ base g * 512 → part (made v (homeStore g v e h)) b m ≡ part v b m
+  pub home-low : (h : ℕ) → h < homeCount g e → (b m : ℕ) → b + m ≤ base g * 512 → part (made v (homeStore g v e h)) b m ≡ part v b m
   home-low zero l b m k =
       part-patch-before v (dataAt g (e .sector) * 512) (e .bytes) data-fits b m (omega (arith, data-high g R (e .sector)))
   home-low (suc zero) l b m k =
       ap (λ (x : List ℕ). part x b m) tag-store
       ∙ part-patch-before v (tagByte g (e .sector)) (e .tag) tag-fits b m (omega (arith, tag-high g R (e .sector), tag-sector g R (e .sector)))
-  home-low (suc (suc h)) l b m k = absurd (omega arith)
+  home-low (suc (suc h)) l b m k = absurd (omega (arith, home-two g e))
 
   -- a byte outside data and tags
-  pub home-outside : (h : ℕ) → h < 2 → (b : ℕ) → Outside g b → getD (made v (homeStore g v e h)) b 0 ≡ getD v b 0
+  pub home-outside : (h : ℕ) → h < homeCount g e → (b : ℕ) → Outside g b → getD (made v (homeStore g v e h)) b 0 ≡ getD v b 0
   home-outside zero l b o = getD-patch v (dataAt g (e .sector) * 512) (e .bytes) b data-fits (rw whole (o .contents (e .sector) low))
   home-outside (suc zero) l b o =
       ap (λ (x : List ℕ). getD x b 0) tag-store ∙ getD-patch v (tagByte g (e .sector)) (e .tag) b tag-fits (rw sized (o .tags (e .sector) low))
-  home-outside (suc (suc h)) l b o = absurd (omega arith)
+  home-outside (suc (suc h)) l b o = absurd (omega (arith, home-two g e))
 
   -- the homes of other sectors
-  pub home-frame : (h : ℕ) → h < 2 → Frame (Home g tag v) (Home g tag (made v (homeStore g v e h))) (e .sector)
+  pub home-frame : (h : ℕ) → h < homeCount g e → Frame (Home g tag v) (Home g tag (made v (homeStore g v e h))) (e .sector)
   home-frame zero l s d n p = (
     part-apart v (dataAt g (e .sector) * 512) (e .bytes) (dataAt g s * 512) 512 data-fits (rw whole (data-data g R s (e .sector) n)) ∙ p .0,
     part-apart v (dataAt g (e .sector) * 512) (e .bytes) (tagByte g s) (g .width) data-fits (rw whole (swap (data-tag g R (e .sector) s))) ∙ p .1,
@@ -76,7 +77,7 @@ module _ (g : Layout) (R : Ranged g) (tag : Tag) (v : List ℕ) (room : needed g
     ap (λ (x : List ℕ). tagAt g x s) tag-store
         ∙ part-apart v (tagByte g (e .sector)) (e .tag) (tagByte g s) (g .width) tag-fits (rw sized (tag-tag g R s (e .sector) n)) ∙ p .1,
   )
-  home-frame (suc (suc h)) l s d n p = absurd (omega arith)
+  home-frame (suc (suc h)) l s d n p = absurd (omega (arith, home-two g e))
 
   pub home-data : sectorAt (made v (homeStore g v e 0)) (dataAt g (e .sector)) ≡ e .bytes
   home-data = part-patch-same v (dataAt g (e .sector) * 512) (e .bytes) data-fits 512 (sym whole)
@@ -91,7 +92,7 @@ module _ (g : Layout) (R : Ranged g) (tag : Tag) (v : List ℕ) (room : needed g
         ∙ part-patch-same v (tagByte g (e .sector)) (e .tag) tag-fits (g .width) (sym sized) ∙ t,
   )
 
-  pub home-sections : (h : ℕ) → h < 2 → (k : ℕ) → k < g .sections → sectionOf g (made v (homeStore g v e h)) k ≡ sectionOf g v k
+  pub home-sections : (h : ℕ) → h < homeCount g e → (k : ℕ) → k < g .sections → sectionOf g (made v (homeStore g v e h)) k ≡ sectionOf g v k
   home-sections h l k m = home-low h l (sectionAt g k * 512) (sectionSize (g .width) * 512) (omega (arith, section-low g R k m))
 
 module _ (g : Layout) (R : Ranged g) (tag : Tag) (v : List ℕ) (room : needed g * 512 ≤ length v)

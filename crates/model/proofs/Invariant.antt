@@ -17,6 +17,7 @@ use Rattle.model.specs.Store.{homeStore, made, homeCount}
 use Rattle.model.specs.State.{volumeLoanOk}
 use Rattle.model.proofs.Plans.{At, home-some, home-two}
 use Rattle.model.specs.Ledger.{Write, Contents, Ledger}
+use Rattle.model.specs.Medium.{Medium, volumeIn}
 use Rattle.model.specs.World.{Live, off, on}
 use Rattle.model.proofs.Replays.{mentions, Clean, Durable, Pass, Midway, touch, noWrite, pass-begins, mid-touch, mid-ends, Frame}
 use Rattle.model.proofs.Journals.{every-replay, Every, writes, writeOfEntry, batchOf, top-kept, ids-kept, replay-kept}
@@ -33,7 +34,7 @@ abbrev pub stateAt : Layout → ℕ → ℕ → Phase → State
 stateAt g n m p = record { layout = g; phase = p; count = n; id = m }
 
 -- what holds of the layout, the tag function and the volume at the start
-pub record Setting (tag : Tag) (g : Layout) (v₀ : List ℕ) : Type 0 where
+pub record Premises (tag : Tag) (g : Layout) (v₀ : List ℕ) : Type 0 where
   pub layout : layoutOk g ≡ true
   pub ranged : Ranged g
   -- a metadata sector has room for an entry
@@ -76,7 +77,7 @@ module _ (tag : Tag) (g : Layout) (v₀ : List ℕ) where
   pub record AtFilling (v : List ℕ) (l : Ledger) (n m : ℕ) (st : List ℕ) : Type 0 where
     pub staged : Staged st n
     pub batch : batchOf (g .width) st n ≡ l .batch
-    pub due : l .due ≡ []
+    pub toCome : l .toCome ≡ []
     pub next : m ≡ greatestId g v + 1
     pub clean : Clean (g .provided) (Home g tag v) (l .contents)
 
@@ -100,7 +101,7 @@ module _ (tag : Tag) (g : Layout) (v₀ : List ℕ) where
     pub some : 0 < n
     pub given : m < 2 ^ 64 - 1
     pub place : j ≤ sectionSize (g .width)
-    pub due : l .due ≡ (sectionSize (g .width) - j) ∷ []
+    pub toCome : l .toCome ≡ (sectionSize (g .width) - j) ∷ []
     pub u : List ℕ
     pub disk : Disk u (l .contents)
     pub clean : Clean (g .provided) (Home g tag u) (l .contents)
@@ -118,7 +119,7 @@ module _ (tag : Tag) (g : Layout) (v₀ : List ℕ) where
   pub record AtHome (v : List ℕ) (l : Ledger) (n m i h : ℕ) (st : List ℕ) : Type 0 where
     pub staged : Staged st n
     pub empty : l .batch ≡ []
-    pub due : l .due ≡ []
+    pub toCome : l .toCome ≡ []
     pub next : m ≡ greatestId g v + 1
     pub place : i < n
     pub half : h < homeCount g (entryOf (g .width) st i)
@@ -128,31 +129,36 @@ module _ (tag : Tag) (g : Layout) (v₀ : List ℕ) where
   pub record AtRecover (v : List ℕ) (l : Ledger) (m k : ℕ) (st : List ℕ) : Type 0 where
     pub staged : Staged st 0
     pub empty : l .batch ≡ []
-    pub due : l .due ≡ []
+    pub toCome : l .toCome ≡ []
     pub next : m ≡ greatestId g v + 1
     pub i : ℕ
     pub h : ℕ
     pub spot : At g (replay g v) k i h
     pub progress : Progress v (l .contents) (writes (replay g v)) i h
 
-  pub data Lives (v : List ℕ) (l : Ledger) : Live → Type 0 where
-    stopped : Disk v (l .contents) → l .batch ≡ [] → l .due ≡ [] → Lives v l off
-    filling : (n m : ℕ) (st : List ℕ) → Disk v (l .contents) → AtFilling v l n m st → Lives v l (on (stateAt g n m Filling) st)
-    committing : (n m j : ℕ) (st : List ℕ) → j < sectionSize (g .width) → AtCommit v l n m j st → Lives v l (on (stateAt g n m (Committing j)) st)
-    writingBack : (n m i h : ℕ) (st : List ℕ) → Disk v (l .contents) → AtHome v l n m i h st → Lives v l (on (stateAt g n m (WritingBack i h)) st)
-    recovering : (m k : ℕ) (st : List ℕ) → Disk v (l .contents) → AtRecover v l m k st → Lives v l (on (stateAt g 0 m (Recovering k)) st)
+  -- in each phase, with n staged entries and the next id m
+  pub data During (d : Medium) (l : Ledger) (m : ℕ) (st : List ℕ) : (n : ℕ) → Phase → Type 0 where
+    inFilling : {n : ℕ} → Disk (volumeIn d) (l .contents) → AtFilling (volumeIn d) l n m st → During d l m st n Filling
+    inCommitting : {n j : ℕ} → j < sectionSize (g .width) → AtCommit (volumeIn d) l n m j st → During d l m st n (Committing j)
+    inWritingBack : {n i h : ℕ} → Disk (volumeIn d) (l .contents) → AtHome (volumeIn d) l n m i h st → During d l m st n (WritingBack i h)
+    inRecovering : {k : ℕ} → Disk (volumeIn d) (l .contents) → AtRecover (volumeIn d) l m k st → During d l m st 0 (Recovering k)
+
+  pub data Lives (d : Medium) (l : Ledger) : Live → Type 0 where
+    stopped : Disk (volumeIn d) (l .contents) → l .batch ≡ [] → l .toCome ≡ [] → Lives d l off
+    working : (n m : ℕ) (p : Phase) (st : List ℕ) → During d l m st n p → Lives d l (on (stateAt g n m p) st)
 
 -- what lies before the journal is kept
-pub low-kept : (tag : Tag) (g : Layout) (v₀ : List ℕ) → Ranged g → (v : List ℕ) (c : Contents) → Disk tag g v₀ v c
-    → (b m : ℕ) → b + m ≤ (g .reserved + 8) * 512 → part v b m ≡ part v₀ b m
-low-kept tag g v₀ R v c D b m h =
-    part-bytes v v₀ b m (D .sized)
-    (λ i l. D .kept (b + i)
-    (record {
+pub before-journal : (g : Layout) → Ranged g → (b : ℕ) → b < (g .reserved + 8) * 512 → Outside g b
+before-journal g R b h =
+    record {
       journal = inl (omega arith);
       contents = λ s k. inl (omega (arith, data-high g R s));
       tags = λ s k. inl (omega (arith, tag-high g R s, tag-sector g R s));
-    }))
+    }
+
+pub low-kept : (tag : Tag) (g : Layout) (v₀ : List ℕ) → Ranged g → (v : List ℕ) (c : Contents) → Disk tag g v₀ v c
+    → (b m : ℕ) → b + m ≤ (g .reserved + 8) * 512 → part v b m ≡ part v₀ b m
+low-kept tag g v₀ R v c D b m h = part-bytes v v₀ b m (D .sized) (λ i l. D .kept (b + i) (before-journal g R (b + i) (omega arith)))
 
 -- every entry to replay is good
 pub replay-goods : (tag : Tag) (g : Layout) (v₀ v : List ℕ) (c : Contents) → Disk tag g v₀ v c → Every (λ x. Good tag g (x .entry)) (replay g v)
@@ -160,7 +166,7 @@ replay-goods tag g v₀ v c D = every-replay g v (λ x. Good tag g (x .entry)) (
 
 -- ---- a store that brings an entry home
 
-module _ (tag : Tag) (g : Layout) (v₀ : List ℕ) (X : Setting tag g v₀) (v : List ℕ) (c : Contents) (D : Disk tag g v₀ v c) (e : Entry) (G : Good tag g e) where
+module _ (tag : Tag) (g : Layout) (v₀ : List ℕ) (X : Premises tag g v₀) (v : List ℕ) (c : Contents) (D : Disk tag g v₀ v c) (e : Entry) (G : Good tag g e) where
   abbrev w : ℕ → List ℕ
   w h = made v (homeStore g v e h)
 
@@ -170,11 +176,8 @@ module _ (tag : Tag) (g : Layout) (v₀ : List ℕ) (X : Setting tag g v₀) (v 
   tagged : length (e .tag) ≡ g .width
   tagged = rw (G .fit) ((X .tags) (e .sector) (e .bytes))
 
-  two : {h : ℕ} → h < homeCount g e → h < 2
-  two l = omega (arith, home-two g e)
-
   pub secs : (h : ℕ) → h < homeCount g e → (k : ℕ) → k < g .sections → sectionOf g (w h) k ≡ sectionOf g v k
-  secs h l = home-sections g (X .ranged) tag v room e (G .low) (G .whole) tagged h (two l)
+  secs h l = home-sections g (X .ranged) tag v room e (G .low) (G .whole) tagged h l
 
   pub replays : (h : ℕ) → h < homeCount g e → replay g (w h) ≡ replay g v
   replays h l = replay-kept g (w h) v (secs h l)
@@ -185,20 +188,20 @@ module _ (tag : Tag) (g : Layout) (v₀ : List ℕ) (X : Setting tag g v₀) (v 
   pub disk-home : (h : ℕ) → h < homeCount g e → mentions (writes (replay g v)) (e .sector) ≡ true → Disk tag g v₀ (w h) c
   disk-home h l m =
       record {
-        sized = home-length g (X .ranged) tag v room e (G .low) (G .whole) tagged h (two l) ∙ D .sized;
-        kept = λ b o. home-outside g (X .ranged) tag v room e (G .low) (G .whole) tagged h (two l) b o ∙ D .kept b o;
+        sized = home-length g (X .ranged) tag v room e (G .low) (G .whole) tagged h l ∙ D .sized;
+        kept = λ b o. home-outside g (X .ranged) tag v room e (G .low) (G .whole) tagged h l b o ∙ D .kept b o;
         places = λ k q. rw (ids-kept g (w h) v (secs h l) k q) (D .places k q);
         window = λ k q. rw (ids-kept g (w h) v (secs h l) k q, tops h l) (D .window k q);
         top = rw (tops h l) (D .top);
         goods = λ k q. rw (secs h l k q) (D .goods k q);
-        durable = rw (replays h l) (touch (g .provided) (e .sector) (home-frame g (X .ranged) tag v room e (G .low) (G .whole) tagged h (two l)) m (D .durable));
+        durable = rw (replays h l) (touch (g .provided) (e .sector) (home-frame g (X .ranged) tag v room e (G .low) (G .whole) tagged h l) m (D .durable));
       }
 
   frame-at : (L : List Write) (i : ℕ) → getD L i noWrite ≡ writeOfEntry e → (h : ℕ) → h < homeCount g e
       → Frame (Home g tag v) (Home g tag (w h)) (getD L i noWrite .sector)
   frame-at L i q h l =
       subst (λ (n : ℕ). Frame (Home g tag v) (Home g tag (w h)) n) (sym (ap (λ (x : Write). x .sector) q))
-      (home-frame g (X .ranged) tag v room e (G .low) (G .whole) tagged h (two l))
+      (home-frame g (X .ranged) tag v room e (G .low) (G .whole) tagged h l)
 
   -- the next store of the pass
   pub half-way : (L : List Write) (i : ℕ) → i < length L → getD L i noWrite ≡ writeOfEntry e

@@ -13,7 +13,8 @@ use Rattle.octets.specs.Choice.{pick}
 use Rattle.octets.proofs.Parts.{length-part}
 use Rattle.octets.specs.Sectors.{sectorAt}
 use Rattle.model.specs.Layout.{perSector, entryCount, sectionSize}
-use Rattle.model.specs.Section.{Entry, unused, idOf, entryOf, allBelow, wholeId, greatest, greatestIn, collect}
+use Rattle.model.specs.Section.{Entry, unused, idOf, entryOf, wholeId, greatestIn}
+use Rattle.octets.specs.Lists.{allBelow, greatest, collect}
 use Rattle.model.specs.Journal.{sealed, sectionOf, greatestId, dueIds, Found, insert, ordered, wholeIds, Replayed, usedEntry, usedOf, replayIn, replay}
 use Rattle.model.specs.Ledger.{Write}
 use Rattle.model.proofs.Sections.{length-withId, id-withId, entry-stamped}
@@ -90,9 +91,9 @@ module _ (t : ℕ) (sec : List ℕ) where
 
 abbrev Placed : ℕ → List Found → Type 0
 Placed n [] = Unit {0}
-Placed n (x ∷ xs) = (x .place < n) × Placed n xs
+Placed n (x ∷ xs) = (x .section < n) × Placed n xs
 
-placed-insert : (n : ℕ) (x : Found) (L : List Found) → x .place < n → Placed n L → Placed n (insert x L)
+placed-insert : (n : ℕ) (x : Found) (L : List Found) → x .section < n → Placed n L → Placed n (insert x L)
 placed-insert n x [] l p = (l, tt)
 placed-insert n x (y ∷ ys) l p = go (ltb (x .id) (y .id)) (placed-insert n x ys l (p .1))
   where
@@ -109,20 +110,20 @@ placed zero ids = tt
 placed (suc n) ids = go (placed-more n (suc n) (ordered n ids) (omega arith) (placed n ids)) (eqb (ids n) 0)
   where
     go : Placed (suc n) (ordered n ids) → (b : Bool)
-        → Placed (suc n) (pick b (ordered n ids) (insert (record { id = ids n; place = n }) (ordered n ids)))
+        → Placed (suc n) (pick b (ordered n ids) (insert (record { id = ids n; section = n }) (ordered n ids)))
     go p true = p
-    go p false = placed-insert (suc n) (record { id = ids n; place = n }) (ordered n ids) (omega arith) p
+    go p false = placed-insert (suc n) (record { id = ids n; section = n }) (ordered n ids) (omega arith) p
 
 pub replayIn-append : (g : Layout) (v : List ℕ) (a b : List Found) → replayIn g v (a ++ b) ≡ replayIn g v a ++ replayIn g v b
 replayIn-append g v [] b = refl
 replayIn-append g v (x ∷ a) b =
-    rw (replayIn-append g v a b) (sym (append-assoc (usedOf (g .width) (x .place) (sectionOf g v (x .place))) (replayIn g v a) (replayIn g v b)))
+    rw (replayIn-append g v a b) (sym (append-assoc (usedOf (g .width) (x .section) (sectionOf g v (x .section))) (replayIn g v a) (replayIn g v b)))
 
 -- sections that agree give the same entries
 pub replayIn-cong : (g : Layout) (v w : List ℕ) (n : ℕ) (L : List Found) → Placed n L → ((k : ℕ) → k < n → sectionOf g v k ≡ sectionOf g w k)
     → replayIn g v L ≡ replayIn g w L
 replayIn-cong g v w n [] p e = refl
-replayIn-cong g v w n (x ∷ L) p e = rw (e (x .place) (p .0), replayIn-cong g v w n L (p .1) e)
+replayIn-cong g v w n (x ∷ L) p e = rw (e (x .section) (p .0), replayIn-cong g v w n L (p .1) e)
 
 -- ---- the greatest id, and what is due: their laws; nothing else looks inside
 
@@ -212,7 +213,7 @@ module _ (t k : ℕ) (sec st : List ℕ) (n : ℕ) (le : n ≤ entryCount t)
     (e : (i : ℕ) → i < entryCount t → entryOf t sec i ≡ entryOf t st i)
     (used : (i : ℕ) → i < n → entryOf t st i .sector ≢ unused)
     (free : (i : ℕ) → n ≤ i → i < entryCount t → entryOf t st i .sector ≡ unused) where
-  used-at : (i : ℕ) → i < n → usedAt t k sec i ≡ record { section = k; place = i; entry = entryOf t st i } ∷ []
+  used-at : (i : ℕ) → i < n → usedAt t k sec i ≡ record { section = k; index = i; entry = entryOf t st i } ∷ []
   used-at i l =
       ap (usedEntry k i) (e i (omega arith)) ∙ rw (ne-eqb (entryOf t st i .sector) unused (used i l))
 
@@ -256,9 +257,9 @@ module _ (t k : ℕ) (sec st : List ℕ) (n : ℕ) (le : n ≤ entryCount t)
 
 abbrev Stands : (ℕ → Type 0) → List Found → Type 0
 Stands Q [] = Unit {0}
-Stands Q (x ∷ xs) = Q (x .place) × Stands Q xs
+Stands Q (x ∷ xs) = Q (x .section) × Stands Q xs
 
-stands-insert : (Q : ℕ → Type 0) (x : Found) (L : List Found) → Q (x .place) → Stands Q L → Stands Q (insert x L)
+stands-insert : (Q : ℕ → Type 0) (x : Found) (L : List Found) → Q (x .section) → Stands Q L → Stands Q (insert x L)
 stands-insert Q x [] l p = (l, tt)
 stands-insert Q x (y ∷ ys) l p = go (ltb (x .id) (y .id)) (stands-insert Q x ys l (p .1))
   where
@@ -272,12 +273,12 @@ stands Q (suc n) ids h = go (stands Q n ids (λ k l. h k (omega arith))) (which 
   where
     go : Stands Q (ordered n ids) → Which (eqb (ids n) 0) → Stands Q (ordered (suc n) ids)
     go p (isTrue t) = rw t p
-    go p (isFalse f) = rw f (stands-insert Q (record { id = ids n; place = n }) (ordered n ids) (h n (omega arith) (eqb-false (ids n) 0 f)) p)
+    go p (isFalse f) = rw f (stands-insert Q (record { id = ids n; section = n }) (ordered n ids) (h n (omega arith) (eqb-false (ids n) 0 f)) p)
 
 replayIn-stands : (g : Layout) (v w : List ℕ) (Q : ℕ → Type 0) (L : List Found) → Stands Q L → ((k : ℕ) → Q k → sectionOf g v k ≡ sectionOf g w k)
     → replayIn g v L ≡ replayIn g w L
 replayIn-stands g v w Q [] p e = refl
-replayIn-stands g v w Q (x ∷ L) p e = rw (e (x .place) (p .0), replayIn-stands g v w Q L (p .1) e)
+replayIn-stands g v w Q (x ∷ L) p e = rw (e (x .section) (p .0), replayIn-stands g v w Q L (p .1) e)
 
 module _ (g : Layout) (v w : List ℕ) (k : ℕ) (kl : k < g .sections)
     (same : (j : ℕ) → j ≢ k → sectionOf g w j ≡ sectionOf g v j) where
@@ -332,7 +333,7 @@ module _ (g : Layout) (v w : List ℕ) (k : ℕ) (kl : k < g .sections)
   unfolding replay
   is-newest nz old =
       ap (replayIn g w) (ordered-comes rest (dueIds g w) k (g .sections) kl rest-k nz (λ i l n. ids-same i l n ∙ sym (rest-other i n)) (λ i l. go i l (ℕ-discrete i k)))
-      ∙ replayIn-append g w (ordered (g .sections) rest) (record { id = dueIds g w k; place = k } ∷ [])
+      ∙ replayIn-append g w (ordered (g .sections) rest) (record { id = dueIds g w k; section = k } ∷ [])
       ∙ rw (without rest rest-k) (ap (λ (r : List Replayed). others ++ r) (append-nil (usedOf (g .width) k (sectionOf g w k))))
     where
       go : (i : ℕ) → i < g .sections → Dec (i ≡ k) → rest i < dueIds g w k
@@ -351,7 +352,7 @@ every-replay g v Q h = go (ordered (g .sections) (dueIds g v))
 
     go : (L : List Found) → Stands P L → Every Q (replayIn g v L)
     go [] s = tt
-    go (x ∷ L) s = every-append Q (usedOf (g .width) (x .place) (sectionOf g v (x .place))) (replayIn g v L) (s .0) (go L (s .1))
+    go (x ∷ L) s = every-append Q (usedOf (g .width) (x .section) (sectionOf g v (x .section))) (replayIn g v L) (s .0) (go L (s .1))
 
 -- ---- a sealed sector: its length, its id; a section of such holds the staged entries
 

@@ -13,29 +13,29 @@ module _ (l : Ledger) where
   counts-on : (ns ns′ : List ℕ) → ns ≡ ns′ → countDown (l .contents) (l .batch) ns ≡ countDown (l .contents) (l .batch) ns′
   counts-on ns ns′ e = ap (countDown (l .contents) (l .batch)) e
 
-  pub still : l .due ≡ [] → afterStep l ≡ l
-  still e = counts-on (l .due) [] e ∙ ap (λ (ns : List ℕ). record { contents = l .contents; batch = l .batch; due = ns }) (sym e)
+  pub still : l .toCome ≡ [] → afterStep l ≡ l
+  still e = counts-on (l .toCome) [] e ∙ ap (λ (ns : List ℕ). record { contents = l .contents; batch = l .batch; toCome = ns }) (sym e)
 
-  pub ticks : (d e : ℕ) → l .due ≡ d ∷ [] → e + 1 ≡ d → 0 < e → afterStep l ≡ record { contents = l .contents; batch = l .batch; due = e ∷ [] }
+  pub ticks : (d e : ℕ) → l .toCome ≡ d ∷ [] → e + 1 ≡ d → 0 < e → afterStep l ≡ record { contents = l .contents; batch = l .batch; toCome = e ∷ [] }
   ticks d zero q z p = absurd (omega arith)
   ticks d (suc e) q z p =
       let w : d ≡ suc (suc e) = omega arith in
-      counts-on (l .due) (suc (suc e) ∷ []) (q ∙ ap (λ (x : ℕ). x ∷ []) w) ∙ rw (ne-eqb (suc (suc e)) 1 (λ x. omega arith))
+      counts-on (l .toCome) (suc (suc e) ∷ []) (q ∙ ap (λ (x : ℕ). x ∷ []) w) ∙ rw (ne-eqb (suc (suc e)) 1 (λ x. omega arith))
 
-  pub enters : (d : ℕ) → l .due ≡ d ∷ [] → d ≡ 1 → afterStep l ≡ record { contents = entered (l .contents) (l .batch); batch = []; due = [] }
-  enters d q z = counts-on (l .due) (1 ∷ []) (q ∙ ap (λ (x : ℕ). x ∷ []) z)
+  pub enters : (d : ℕ) → l .toCome ≡ d ∷ [] → d ≡ 1 → afterStep l ≡ record { contents = entered (l .contents) (l .batch); batch = []; toCome = [] }
+  enters d q z = counts-on (l .toCome) (1 ∷ []) (q ∙ ap (λ (x : ℕ). x ∷ []) z)
 
 -- ---- two flushes count, the second a step behind the first
 
 abbrev counting : Ledger → List ℕ → Ledger
-counting l ns = record { contents = l .contents; batch = l .batch; due = ns }
+counting l ns = record { contents = l .contents; batch = l .batch; toCome = ns }
 
 module _ (m : ℕ) where
-  enters-first : (k : ℕ) (l : Ledger) → l .due ≡ suc (suc k) ∷ (suc k ∷ []) → noteAll m l (replicate (suc k) (stepped true)) .contents ≡ entered (l .contents) (l .batch)
-  enters-first zero l e = ap (λ (x : Ledger). x .contents) (counts-on l (l .due) (2 ∷ (1 ∷ [])) e)
+  enters-first : (k : ℕ) (l : Ledger) → l .toCome ≡ suc (suc k) ∷ (suc k ∷ []) → noteAll m l (replicate (suc k) (stepped true)) .contents ≡ entered (l .contents) (l .batch)
+  enters-first zero l e = ap (λ (x : Ledger). x .contents) (counts-on l (l .toCome) (2 ∷ (1 ∷ [])) e)
   enters-first (suc k) l e =
       let on : afterStep l ≡ counting l (suc (suc k) ∷ (suc k ∷ [])) =
-      counts-on l (l .due) (suc (suc (suc k)) ∷ (suc (suc k) ∷ [])) e
+      counts-on l (l .toCome) (suc (suc (suc k)) ∷ (suc (suc k) ∷ [])) e
       ∙ rw (ne-eqb (suc (suc (suc k))) 1 (λ x. omega arith), ne-eqb (suc (suc k)) 1 (λ x. omega arith)) in
       ap (λ (x : Ledger). noteAll m x (replicate (suc k) (stepped true)) .contents) on ∙ enters-first k (counting l (suc (suc k) ∷ (suc k ∷ []))) refl
 

@@ -8,8 +8,8 @@ use native.Mathlib.Omega.{arith}
 use lib.Dec.{leb, ltb}
 use lib.ListN.{length}
 use borrow.Author.Tests.{leb-false}
-use Rattle.octets.specs.Answer.{Refusal, refused, refusal, refuse, isTaken}
-use Rattle.octets.specs.Choice.{pick, firstMet}
+use Rattle.octets.specs.Answer.{Refusal, refused, refusal, refuse}
+use Rattle.octets.specs.Choice.{firstMet}
 use Rattle.octets.specs.Sectors.{sectorAt}
 use Rattle.octets.proofs.Parts.{length-part, length-patch}
 use Rattle.model.specs.declared.Layout.{Layout}
@@ -19,22 +19,18 @@ use Rattle.model.specs.declared.State.{State}
 use Rattle.model.specs.Layout.{sectionSize, tagSector, tagOffset, needed}
 use Rattle.model.specs.Section.{Entry}
 use Rattle.model.specs.Journal.{sectionFor, replay}
-use Rattle.model.specs.Tag.{Tags, tagOf}
-use Rattle.model.specs.Store.{afterEffect, contentOf, homeStore, Place, storeOf}
+use Rattle.model.specs.Store.{afterEffect, contentOf, homeStore, storeOf, RecoveryStep, storing, recoveryStepAt}
 use Rattle.model.specs.State.{passed, stateOk, volumeOk, stagingOk, sectorOk}
-use Rattle.model.specs.Format.{formatOf}
-use Rattle.model.specs.Step.{StepResult, placeAt, placeRow, rangeRows, stagedEntry, commitStore, commitStep, homeStep, recoverPlace, phaseStep, stepBy, stepOf}
-use Rattle.model.specs.Ledger.{Ledger, stepped, start, note, noteAll}
-use Rattle.model.specs.World.{Event, aStep, aRead, Live, off, on, World, Medium, begin, stepWorld, play, tell, next, noted, after, transcript}
-use Rattle.model.specs.Demand3.{Agrees}
-use Rattle.model.specs.NextStore.{nextStoreOf, storeNamed, Placed, Within, sectorNamed, sectorStored, StepStores, OwnerEvent, plain, aNextStore, ownerWorld, ownerStep, ownerTaken, ownerNext, ownerNoted, ownerAfter, ownerTranscript, Demand3Owner, Demand3OwnerSha256}
+use Rattle.model.specs.Step.{recoveryRow, rangeRows, phaseStep, stepBy, stepOf}
+use Rattle.model.specs.JournalStep.{stagedEntry, commitStore, commitStep, homeStep, recoverBy}
+use Rattle.model.specs.StepResult.{StepResult}
+use Rattle.model.specs.NextStore.{nextStoreOf, storeNamed, Placed, Within, sectorNamed, sectorStored, StepStores}
 use Rattle.model.proofs.Addresses.{and-both, Ranged, ranged, data-high, tag-high, data-room, tag-room, tag-inside, section-low, base-room}
 use Rattle.model.proofs.Sections.{bytes-length, tag-length}
 use Rattle.model.proofs.Journals.{length-sealed}
 use Rattle.model.proofs.Replays.{Which, isTrue, isFalse, which}
-use Rattle.model.proofs.Entries.{Complete, replay-complete, PlaceOf, place-every}
+use Rattle.model.proofs.Entries.{Complete, replay-complete, StepFor, step-every}
 use Rattle.model.proofs.States.{state-layout, staging-length, state-committing, state-writing-back, volume-room, volume-replay}
-use Rattle.model.proofs.Demand3.{demand3, formatted-length}
 
 -- ---- a store of a step lies in the layout
 
@@ -124,11 +120,11 @@ module _ (s : State) (v st : List ℕ) where
         (bringing (stagedEntry s st i) (leb-false (g .provided) (stagedEntry s st i .sector) n)
         (bytes-length (g .width) i (R .t .bound) i-low st staged) (tag-length (g .width) i (R .t .bound) i-low st staged) h _ _ _))
 
-    recovering : (k : ℕ) → s .phase ≡ Recovering k → (p : Place) → placeAt g v k ≡ p → PlaceOf g (Complete g) p → Stores (stepBy s v st (firstMet (placeRow g p ∷ []) passed))
-    recovering k q (storeOf x h) e c =
-        by-row (leb (g .provided) (x .entry .sector)) (refusal 6 (x .section ∷ x .place ∷ []))
+    recovering : (k : ℕ) → s .phase ≡ Recovering k → (p : RecoveryStep) → recoveryStepAt g v k ≡ p → StepFor g (Complete g) p → Stores (stepBy s v st (firstMet (recoveryRow g p ∷ []) passed))
+    recovering k q (storing (storeOf x h)) e c =
+        by-row (leb (g .provided) (x .entry .sector)) (refusal 6 (x .section ∷ x .index ∷ []))
         (λ n. at-phase (Recovering k) q
-        (subst (λ (y : Place). Stores (recoverPlace s v st k y)) (sym e)
+        (subst (λ (y : RecoveryStep). Stores (recoverBy s v st k y)) (sym e)
         (bringing (x .entry) (leb-false (g .provided) (x .entry .sector) n) (c .0 .whole) (c .0 .sized) h _ _ _)))
 
     by-phase : (p : Phase) → s .phase ≡ p → Stores (stepBy s v st (firstMet (rangeRows s v st p) passed))
@@ -136,7 +132,7 @@ module _ (s : State) (v st : List ℕ) where
     by-phase (Committing j) q = at-phase (Committing j) q (committing j q)
     by-phase (WritingBack i h) q = writing-back i h q
     by-phase (Recovering k) q =
-        recovering k q (placeAt g v k) refl (place-every g (Complete g) (replay g v) (replay-complete g R v room) k (volume-replay s v fits k q))
+        recovering k q (recoveryStepAt g v k) refl (step-every g (Complete g) (replay g v) (replay-complete g R v room) k (volume-replay s v fits k q))
 
   stores : Stores (stepOf s v st)
   unfolding stepOf
@@ -149,74 +145,13 @@ module _ (s : State) (v st : List ℕ) where
           let b = and-both (volumeOk s v) _ (a .1) in
           rw e (by-phase (a .0) (b .0) (b .1) (s .phase) refl)
 
-  next-told : (out : List ℕ) → sectorOk out ≡ true → nextStoreOf s v st out ≡ stepOf s v st
+  pub next-told : (out : List ℕ) → sectorOk out ≡ true → nextStoreOf s v st out ≡ stepOf s v st
   unfolding nextStoreOf stepOf
   next-told out e = rw e
 
   pub step-stores : StepStores s v st
   step-stores = record { within = stores .within; sector = stores .sector; told = next-told; made = stores .made }
 
-  next-refused : (out : List ℕ) → sectorOk out ≡ false → nextStoreOf s v st out ≡ stepBy s v st (refuse 1 [])
+  pub next-refused : (out : List ℕ) → sectorOk out ≡ false → nextStoreOf s v st out ≡ stepBy s v st (refuse 1 [])
   unfolding nextStoreOf
   next-refused out e = rw e
-
--- ---- demand 3 of an owner who makes the stores
-
--- the event that leaves the same: a step, or, where the loan is of a wrong length, a call that changes nothing
-abbrev sameEvent : OwnerEvent → Event
-sameEvent (plain e) = e
-sameEvent (aNextStore out) = pick (sectorOk out) aStep (aRead 0 [])
-
-abbrev sameEvents : List OwnerEvent → List Event
-sameEvents [] = []
-sameEvents (e ∷ es) = sameEvent e ∷ sameEvents es
-
-module _ (tags : Tags) (r : ℕ) where
-  step-same : (m : Medium) (x : Live) (out : List ℕ) (b : Bool) → sectorOk out ≡ b → ownerStep m x out ≡ play tags r m x (pick b aStep (aRead 0 []))
-  step-same m off out true e = refl
-  step-same m off out false e = refl
-  step-same m (on s st) out true e =
-      ap (ownerWorld m out) (next-told s m st out e)
-      ∙ ap (λ (v : Medium). record { medium = v; live = stepWorld m (stepOf s m st) .live; settled = stepWorld m (stepOf s m st) .settled }) (stores s m st .made out)
-  step-same m (on s st) out false e = ap (ownerWorld m out) (next-refused s m st out e)
-
-  next-same : (w : World) (e : OwnerEvent) → ownerNext tags r w e ≡ next tags r w (sameEvent e)
-  next-same w (plain e) = refl
-  next-same w (aNextStore out) = step-same (w .medium) (w .live) out (sectorOk out) refl
-
-  told-same : (n : ℕ) (l : Ledger) (m : Medium) (x : Live) (out : List ℕ) (b : Bool) → sectorOk out ≡ b
-      → note n l (ownerTaken m x out) ≡ note n l (tell tags r m x (pick b aStep (aRead 0 [])))
-  told-same n l m off out true e = refl
-  told-same n l m off out false e = refl
-  told-same n l m (on s st) out true e = ap (λ (o : StepResult). note n l (stepped (isTaken (o .answer)))) (next-told s m st out e)
-  told-same n l m (on s st) out false e = ap (λ (o : StepResult). note n l (stepped (isTaken (o .answer)))) (next-refused s m st out e)
-
-  note-same : (n : ℕ) (l : Ledger) (w : World) (e : OwnerEvent) → note n l (ownerNoted tags r w e) ≡ note n l (noted tags r w (sameEvent e))
-  note-same n l w (plain e) = refl
-  note-same n l w (aNextStore out) = told-same n l (w .medium) (w .live) out (sectorOk out) refl
-
-  after-same : (w : World) (es : List OwnerEvent) → ownerAfter tags r w es ≡ after tags r w (sameEvents es)
-  unfolding ownerAfter after
-  after-same w [] = refl
-  after-same w (e ∷ es) = after-same (ownerNext tags r w e) es ∙ ap (λ (x : World). after tags r x (sameEvents es)) (next-same w e)
-
-  ledger-same : (n : ℕ) (l : Ledger) (w : World) (es : List OwnerEvent) → noteAll n l (ownerTranscript tags r w es) ≡ noteAll n l (transcript tags r w (sameEvents es))
-  unfolding ownerTranscript transcript
-  ledger-same n l w [] = refl
-  ledger-same n l w (e ∷ es) =
-      ledger-same n (note n l (ownerNoted tags r w e)) (ownerNext tags r w e) es
-      ∙ ap (λ (k : Ledger). noteAll n k (transcript tags r (ownerNext tags r w e) (sameEvents es))) (note-same n l w e)
-      ∙ ap (λ (x : World). noteAll n (note n l (noted tags r w (sameEvent e))) (transcript tags r x (sameEvents es))) (next-same w e)
-
-pub demand3-owner : Demand3Owner
-demand3-owner tags g sz v e es q =
-    let w₀ : World = begin (formatOf tags g v .volume) in
-    let v₀ : List ℕ = formatOf tags g v .volume in
-    let world = after-same tags (g .reserved) w₀ es in
-    let ledger = ledger-same tags (g .reserved) (sectionSize (g .width)) start w₀ es in
-    subst (λ (l : Ledger). Agrees tags g v₀ (ownerAfter tags (g .reserved) w₀ es) l) (sym ledger)
-    (subst (λ (w : World). Agrees tags g v₀ w (noteAll (sectionSize (g .width)) start (transcript tags (g .reserved) w₀ (sameEvents es)))) (sym world)
-    (demand3 tags g sz v e (sameEvents es) (sym (ap (λ (w : World). w .settled) world) ∙ q)))
-
-pub demand3-owner-sha256 : Demand3OwnerSha256
-demand3-owner-sha256 g v e = demand3-owner tagOf g (formatted-length g v e) v e

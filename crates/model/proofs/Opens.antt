@@ -15,23 +15,26 @@ use Rattle.octets.specs.Parts.{same}
 use Rattle.octets.proofs.Numbers.{value-le}
 use Rattle.octets.proofs.Parts.{eq-same}
 use Rattle.model.specs.Layout.{sectionSize, needed, layoutOk}
-use Rattle.model.specs.Section.{allBelow, emptySection}
+use Rattle.model.specs.Section.{emptySection}
+use Rattle.octets.specs.Lists.{allBelow}
 use Rattle.model.specs.Journal.{greatestId, wholeIds, Replayed, replay}
 use Rattle.model.specs.Superblock.{superblockOf, layoutIn, superblockAt, superblockOk, isZero}
-use Rattle.model.specs.Store.{homeCount, storesOf}
+use Rattle.model.specs.Store.{homeCount, stepsOf}
 use Rattle.model.specs.Tag.{Tag, Tags}
 use Rattle.model.specs.State.{passed, volumeLoanOk, stagingOk}
 use Rattle.model.specs.Open.{misplaced, openRows, entriesVerdict, OpenResult, openBy, openWith, openOf}
 use Rattle.model.specs.Query.{queryWith, queryOf}
-use Rattle.model.specs.Ledger.{Ledger, opened as openedNote, note}
-use Rattle.model.specs.World.{openWorld}
+use Rattle.model.specs.Ledger.{Ledger}
+use Rattle.model.specs.Medium.{Medium, volumeIn}
+use Rattle.model.specs.World.{byOpen}
 use Rattle.model.proofs.Replays.{Which, isTrue, isFalse, which, pass-replays}
 use Rattle.model.proofs.Journals.{Every, writes, all-below}
 use Rattle.model.proofs.Addresses.{Ranged, base-room}
-use Rattle.model.proofs.Plans.{At, here, at-in, home-two}
-use Rattle.model.proofs.Invariant.{Setting, low-kept, replay-goods, Good, Disk, stopped, filling, recovering}
-use Rattle.model.proofs.Steps.{Inv, never, staged-empty}
+use Rattle.model.proofs.Plans.{At, here, at-in, home-some}
+use Rattle.model.proofs.Invariant.{Premises, low-kept, replay-goods, Good, Disk, stopped, working, inFilling, inRecovering}
+use Rattle.model.proofs.Steps.{Leads, never, staged-empty}
 use Rattle.model.specs.declared.Layout.{Layout}
+use Rattle.model.specs.declared.Phase.the-variants.{Filling, Recovering}
 
 -- ---- the superblockAt is read back
 
@@ -64,8 +67,11 @@ entries-pass tag g (x ∷ xs) q =
     let t : same (x .entry .tag) (tag (x .entry .sector) (x .entry .bytes)) ≡ true = eq-same (x .entry .tag) (tag (x .entry .sector) (x .entry .bytes)) (q .0 .fit) in
     rw (lt-leb (g .provided) (x .entry .sector) (q .0 .low), t) (entries-pass tag g xs (q .1))
 
-module _ (tags : Tags) (g : Layout) (v₀ : List ℕ) (X : Setting (tags (g .width)) g v₀)
-    (v : List ℕ) (l : Ledger) (D : Disk (tags (g .width)) g v₀ v (l .contents)) where
+module _ (tags : Tags) (g : Layout) (v₀ : List ℕ) (X : Premises (tags (g .width)) g v₀)
+    (d : Medium) (l : Ledger) (D : Disk (tags (g .width)) g v₀ (volumeIn d) (l .contents)) where
+  abbrev v : List ℕ
+  v = volumeIn d
+
   abbrev tag : Tag
   tag = tags (g .width)
 
@@ -136,57 +142,57 @@ module _ (tags : Tags) (g : Layout) (v₀ : List ℕ) (X : Setting (tags (g .wid
 
   -- what an open leads to
   abbrev OpenLeads : OpenResult → Type 0
-  OpenLeads o = Inv tag g v₀ X (openWorld v o) (note (sectionSize (g .width)) l (openedNote (isTaken (o .answer))))
+  OpenLeads o = Leads tag g v₀ X l (byOpen d (o .staging) (o .answer))
 
   start-at : (x : Replayed) (xs : List Replayed) → At g (x ∷ xs) 0 0 0
   start-at x xs =
-      let l : 0 < homeCount g (x .entry) = omega (arith, home-two g (x .entry)) in here refl l
+      let l : 0 < homeCount g (x .entry) = omega (arith, home-some g (x .entry)) in here refl l
 
-  starts-at : (xs : List Replayed) → storesOf g xs ≢ 0 → At g xs 0 0 0
+  starts-at : (xs : List Replayed) → stepsOf g xs ≢ 0 → At g xs 0 0 0
   starts-at [] e = absurd (e refl)
   starts-at (x ∷ xs) e = start-at x xs
 
-  empty-writes : (xs : List Replayed) → storesOf g xs ≡ 0 → writes xs ≡ []
+  empty-writes : (xs : List Replayed) → stepsOf g xs ≡ 0 → writes xs ≡ []
   empty-writes [] e = refl
   empty-writes (x ∷ xs) e = absurd (omega (arith, at-in g (start-at x xs)))
 
-  opened : l .batch ≡ [] → l .due ≡ [] → (st : List ℕ) → OpenLeads (openBy g v st passed)
-  opened b d st = go (ℕ-discrete (storesOf g (replay g v)) 0)
+  opened : l .batch ≡ [] → l .toCome ≡ [] → (st : List ℕ) → OpenLeads (openBy g v st passed)
+  opened b c st = go (ℕ-discrete (stepsOf g (replay g v)) 0)
     where
-      go : Dec (storesOf g (replay g v) ≡ 0) → OpenLeads (openBy g v st passed)
+      go : Dec (stepsOf g (replay g v) ≡ 0) → OpenLeads (openBy g v st passed)
       go (yes z) =
-          rw (eq-eqb (storesOf g (replay g v)) 0 z)
+          rw (eq-eqb (stepsOf g (replay g v)) 0 z)
           (record {
-            lives = filling 0 (greatestId g v + 1) (emptySection (g .width)) D
+            lives = working 0 (greatestId g v + 1) Filling (emptySection (g .width)) (inFilling D
                 (record {
                   staged = staged-empty tag g v₀ X;
                   batch = sym b;
-                  due = d;
+                  toCome = c;
                   next = refl;
                   clean = λ s h. D .durable .unnamed s h (rw (empty-writes (replay g v) z));
-                });
-            fills = λ q. tt;
+                }));
+            fills = λ q. refl;
           })
       go (no z) =
-          rw (ne-eqb (storesOf g (replay g v)) 0 z)
+          rw (ne-eqb (stepsOf g (replay g v)) 0 z)
           (record {
-            lives = recovering (greatestId g v + 1) 0 (emptySection (g .width)) D
+            lives = working 0 (greatestId g v + 1) (Recovering 0) (emptySection (g .width)) (inRecovering D
                 (record {
                   staged = staged-empty tag g v₀ X;
                   empty = b;
-                  due = d;
+                  toCome = c;
                   next = refl;
                   i = 0;
                   h = 0;
                   spot = starts-at (replay g v) z;
                   progress = pass-replays (g .provided) (D .durable);
-                });
+                }));
             fills = λ q. never q;
           })
 
-  pub open-keeps : (st : List ℕ) → l .batch ≡ [] → l .due ≡ [] → OpenLeads (openOf tags (g .reserved) v st)
-  open-keeps st b d = go (which (stagingOk g st))
+  pub open-keeps : (st : List ℕ) → l .batch ≡ [] → l .toCome ≡ [] → OpenLeads (openOf tags (g .reserved) v st)
+  open-keeps st b c = go (which (stagingOk g st))
     where
       go : Which (stagingOk g st) → OpenLeads (openOf tags (g .reserved) v st)
-      go (isTrue t) = rw (open-runs st t) (opened b d st)
-      go (isFalse f) = rw (open-refused st f) (record { lives = stopped D b d; fills = λ q. never q })
+      go (isTrue t) = rw (open-runs st t) (opened b c st)
+      go (isFalse f) = rw (open-refused st f) (record { lives = stopped D b c; fills = λ q. never q })

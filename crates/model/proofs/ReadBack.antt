@@ -12,7 +12,8 @@ use borrow.Author.Tests.{eq-eqb, ne-eqb}
 use Rattle.octets.specs.Sectors.{sectorAt}
 use Rattle.model.specs.declared.Layout.{Layout}
 use Rattle.model.specs.Layout.{perSector, entryCount, sectionSize}
-use Rattle.model.specs.Section.{Entry, unused, idOf, entryOf, putEntry, wholeId, collect, emptySection}
+use Rattle.model.specs.Section.{Entry, unused, idOf, entryOf, putEntry, wholeId, emptySection}
+use Rattle.octets.specs.Lists.{collect}
 use Rattle.model.specs.Journal.{sealed, usedEntry, usedOf}
 use Rattle.model.specs.ReadBack.{Sized, AllSized, putBatch, sealedSection, numbered, ReadBack}
 use Rattle.model.proofs.Addresses.{ranged}
@@ -103,7 +104,7 @@ module _ (g : Layout) (pos : 0 < perSector (g .width)) (es : List Entry) (l : le
   entry : (i : ℕ) → i < entryCount t → entryOf t section i ≡ entryOf t staging i
   entry = entry-sealed g pos section staging n staging-length sector
 
-  used-at : (k m : ℕ) → m < length es → usedEntry k m (entryOf t section m) ≡ record { section = k; place = m; entry = getD es m noEntry } ∷ []
+  used-at : (k m : ℕ) → m < length es → usedEntry k m (entryOf t section m) ≡ record { section = k; index = m; entry = getD es m noEntry } ∷ []
   unfolding staging
   used-at k m h =
       let z : 0 + m ≡ m = omega arith in

@@ -17,15 +17,17 @@ use Rattle.model.specs.declared.Phase.the-variants.{Filling, Committing,
 use Rattle.model.specs.declared.State.{State}
 use Rattle.model.specs.Layout.{mostSectors, sectionSize, sectionAt, dataAt, tagByte, tagSector, tagOffset}
 use Rattle.model.specs.Superblock.{superblockAt, layoutIn}
-use Rattle.model.specs.Section.{Entry, wholeId, allBelow}
+use Rattle.model.specs.Section.{Entry, wholeId}
+use Rattle.octets.specs.Lists.{allBelow, firstBelow}
 use Rattle.model.specs.Journal.{sectionOf, greatestId, sectionFor, wholeIds, replay}
 use Rattle.model.specs.Tag.{Tags, tagAt}
-use Rattle.model.specs.Store.{homeStore, Place, storeOf}
+use Rattle.model.specs.Store.{homeStore, storeOf, RecoveryStep, storing, recoveryStepAt}
 use Rattle.model.specs.State.{Verdict, passed, volumeLoanOk, replayOk, volumeOk, stagingOk, sectorOk, lastId}
 use Rattle.model.specs.Format.{formatRows, formatBy, formatOf}
-use Rattle.model.specs.Open.{misplaced, firstBelow, openRows, superblockRows, entriesVerdict, openBy, openWith, openOf}
+use Rattle.model.specs.Open.{misplaced, openRows, superblockRows, entriesVerdict, openBy, openWith, openOf}
 use Rattle.model.specs.Query.{queryWith, queryOf}
-use Rattle.model.specs.Step.{placeAt, rangeRows, stepRows, commitStep, homeStep, recoverPlace, phaseStep, stepBy, stepOf}
+use Rattle.model.specs.Step.{rangeRows, stepRows, phaseStep, stepBy, stepOf}
+use Rattle.model.specs.JournalStep.{commitStep, homeStep, recoverBy}
 use Rattle.model.specs.Read.{readRows, readBy, readOf}
 use Rattle.model.specs.NextStore.{nextStoreOf}
 use Rattle.model.specs.Reserved.{AgreeFrom, ReservedUnread}
@@ -151,15 +153,15 @@ module _ (r : ℕ) (v w : List ℕ) (agree : AgreeFrom r v w) where
     unfolding homeStep
     home-step e k last p left = rw (home-same h from e k)
 
-    recover-same : (k : ℕ) (x : Place) → recoverPlace s v st k x ≡ recoverPlace s w st k x
-    recover-same k (storeOf x i) = rw (replay-same h from) (home-step (x .entry) i _ _ st)
+    recover-same : (k : ℕ) (x : RecoveryStep) → recoverBy s v st k x ≡ recoverBy s w st k x
+    recover-same k (storing (storeOf x i)) = rw (replay-same h from) (home-step (x .entry) i _ _ st)
 
     phase-same : (p : Phase) → phaseStep s v st p ≡ phaseStep s w st p
     unfolding commitStep
     phase-same Filling = refl
     phase-same (Committing j) = refl
     phase-same (WritingBack i k) = home-step _ k _ _ _
-    phase-same (Recovering k) = recover-same k (placeAt h v k) ∙ rw (replay-same h from)
+    phase-same (Recovering k) = recover-same k (recoveryStepAt h v k) ∙ rw (replay-same h from)
 
     by-same : (x : Verdict) → stepBy s v st x ≡ stepBy s w st x
     by-same (taken a) = phase-same (s .phase)

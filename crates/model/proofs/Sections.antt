@@ -20,7 +20,8 @@ use Rattle.octets.proofs.Parts.{part-append-left, part-patch-same, length-patch
 use Rattle.octets.proofs.Sectors.{length-put, sector-put-same, sector-put-other}
 use Rattle.model.specs.Geometry.{Apart, before, behind}
 use Rattle.model.specs.Layout.{entrySize, perSector, entryCount, sectionSize}
-use Rattle.model.specs.Section.{collect, unused, emptyEntry, emptySector, emptySection, Entry, idOf, withId, metadataOf, entryOffset, readEntry, entryOf, entryBytes, putEntry}
+use Rattle.model.specs.Section.{unused, emptyEntry, emptySector, emptySection, Entry, idOf, withId, metadataOf, entryOffset, readEntry, entryOf, entryBytes, putEntry}
+use Rattle.octets.specs.Lists.{collect}
 use Rattle.model.proofs.Addresses.{part-apart}
 
 -- ---- the id field

@@ -15,7 +15,7 @@ use Rattle.model.specs.declared.Phase.the-variants.{Committing, WritingB
 use Rattle.model.specs.declared.State.{State}
 use Rattle.model.specs.Layout.{entryCount, sectionSize, needed, layoutOk}
 use Rattle.model.specs.Journal.{replay}
-use Rattle.model.specs.Store.{storesOf}
+use Rattle.model.specs.Store.{mostHomeStores, stepsOf}
 use Rattle.model.specs.State.{lastId, placeOk, stateOk, stagingOk, volumeLoanOk, volumeOk, replayOk}
 
 pub place-committing : (g : Layout) (count id size : ℕ) (p : Phase) (j : ℕ) → size ≡ sectionSize (g .width) → p ≡ Committing j
@@ -83,12 +83,12 @@ state-commits s e i q j l =
     let d = and-both (ltb i (sectionSize (s .layout .width))) _ p in
     rw (a .0, b .0, c .0, lt-ltb j (sectionSize (s .layout .width)) l, d .1)
 
-pub state-writing-back : (s : State) → stateOk s ≡ true → (i h : ℕ) → s .phase ≡ WritingBack i h → (i < s .count) × (i < entryCount (s .layout .width)) × (h < 2)
+pub state-writing-back : (s : State) → stateOk s ≡ true → (i h : ℕ) → s .phase ≡ WritingBack i h → (i < s .count) × (i < entryCount (s .layout .width)) × (h < mostHomeStores)
 state-writing-back s e i h q =
     let p : placeOk (s .layout) (s .count) (s .id) (WritingBack i h) ≡ true = ap (placeOk (s .layout) (s .count) (s .id)) (sym q) ∙ place-of s e .1 in
     let a = and-both (ltb i (s .count)) _ p in
     let l = ltb-true i (s .count) (a .0) in
-    (l, omega (arith, state-count s e), ltb-true h 2 (a .1))
+    (l, omega (arith, state-count s e), ltb-true h mostHomeStores (a .1))
 
 -- ---- volumes
 
@@ -115,12 +115,12 @@ module _ (s : State) (v : List ℕ) (fit : volumeLoanOk v && leb (needed (s .lay
   pub volume-in : (p : Phase) → s .phase ≡ p → replayOk (s .layout) v p ≡ true → volumeOk s v ≡ true
   volume-in p q e = sym (volume-fit s v true fit (sym (ap (replayOk (s .layout) v) q ∙ e)))
 
-  pub volume-below : (k : ℕ) → s .phase ≡ Recovering k → k < storesOf (s .layout) (replay (s .layout) v) → volumeOk s v ≡ true
-  volume-below k q l = volume-in (Recovering k) q (lt-ltb k (storesOf (s .layout) (replay (s .layout) v)) l)
+  pub volume-below : (k : ℕ) → s .phase ≡ Recovering k → k < stepsOf (s .layout) (replay (s .layout) v) → volumeOk s v ≡ true
+  volume-below k q l = volume-in (Recovering k) q (lt-ltb k (stepsOf (s .layout) (replay (s .layout) v)) l)
 
-  pub volume-past : (k : ℕ) → s .phase ≡ Recovering k → storesOf (s .layout) (replay (s .layout) v) ≤ k → volumeOk s v ≡ false
+  pub volume-past : (k : ℕ) → s .phase ≡ Recovering k → stepsOf (s .layout) (replay (s .layout) v) ≤ k → volumeOk s v ≡ false
   volume-past k q l =
-      sym (volume-fit s v false fit (sym (ap (replayOk (s .layout) v) q ∙ le-ltb k (storesOf (s .layout) (replay (s .layout) v)) l)))
+      sym (volume-fit s v false fit (sym (ap (replayOk (s .layout) v) q ∙ le-ltb k (stepsOf (s .layout) (replay (s .layout) v)) l)))
 
 -- what a volume that passed is good for
 pub volume-room : (s : State) (v : List ℕ) → volumeOk s v ≡ true → needed (s .layout) * 512 ≤ length v
@@ -129,9 +129,9 @@ volume-room s v e =
     let a = and-both (volumeLoanOk v) _ e in
     leb-true (needed (s .layout) * 512) (length v) (and-both (leb (needed (s .layout) * 512) (length v)) _ (a .1) .0)
 
-pub volume-replay : (s : State) (v : List ℕ) → volumeOk s v ≡ true → (k : ℕ) → s .phase ≡ Recovering k → k < storesOf (s .layout) (replay (s .layout) v)
+pub volume-replay : (s : State) (v : List ℕ) → volumeOk s v ≡ true → (k : ℕ) → s .phase ≡ Recovering k → k < stepsOf (s .layout) (replay (s .layout) v)
 unfolding volumeOk
 volume-replay s v e k q =
     let a = and-both (volumeLoanOk v) _ e in
     let b = and-both (leb (needed (s .layout) * 512) (length v)) _ (a .1) in
-    ltb-true k (storesOf (s .layout) (replay (s .layout) v)) (ap (replayOk (s .layout) v) (sym q) ∙ b .1)
+    ltb-true k (stepsOf (s .layout) (replay (s .layout) v)) (ap (replayOk (s .layout) v) (sym q) ∙ b .1)

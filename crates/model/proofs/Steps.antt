@@ -11,24 +11,26 @@ use lib.ListN.{length, getD, length-append, List·getD-append}
 use lib.Seq.{getD-at}
 use lib.Dec.{eqb}
 use borrow.Author.Tests.{eq-eqb, ne-eqb, lt-ltb, le-ltb, le-leb, lt-leb}
-use Rattle.octets.specs.Answer.{taken, isTaken}
+use Rattle.octets.specs.Answer.{taken}
 use Rattle.model.specs.Layout.{entryCount, sectionSize, sectionAt, needed}
 use Rattle.model.specs.Section.{Entry, entryOf, emptySection}
 use Rattle.model.specs.Journal.{sealed, greatestId, Replayed, replay}
 use Rattle.model.specs.Tag.{Tag}
-use Rattle.model.specs.Store.{one, afterEffect, homeStore, made, storesOf, homeCount}
+use Rattle.model.specs.Store.{one, afterEffect, homeStore, made, stepsOf, homeCount, mostHomeStores, noEntry}
 use Rattle.octets.proofs.Choice.{Unmet, passes}
-use Rattle.model.specs.Flush.{inPhase}
-use Rattle.model.specs.State.{passed, volumeLoanOk, placeOk, replayOk, stateOk, volumeOk, stagingOk}
-use Rattle.model.specs.Step.{noEntry, rangeRows, stepRows, StepResult, commitStep, homeStep, writeBackStep, recoverStep, phaseStep, stepBy, stepOf}
-use Rattle.model.specs.Ledger.{stepped, Write, Ledger, entered, note}
+use Rattle.model.specs.State.{passed, isFilling, volumeLoanOk, placeOk, replayOk, stateOk, volumeOk, stagingOk, inPhase}
+use Rattle.model.specs.Step.{rangeRows, stepRows, phaseStep, stepBy, stepOf}
+use Rattle.model.specs.JournalStep.{commitSteps, commitStep, homeStep, writeBackStep, recoverStep}
+use Rattle.model.specs.StepResult.{StepResult}
+use Rattle.model.specs.Ledger.{Write, Ledger, entered, note}
 use Rattle.model.proofs.Ledger.{still, ticks, enters}
-use Rattle.model.specs.World.{Live, off, on, World, stepWorld}
+use Rattle.model.specs.Medium.{Medium, volumeIn, mediumAfter}
+use Rattle.model.specs.World.{Live, off, on, World, Happened, byStep}
 use Rattle.model.proofs.Replays.{mentions, mentions-get, Pass, pass-ends, noWrite}
 use Rattle.model.proofs.Journals.{every-get, writes, length-writes, writeOfEntry, batchOf}
 use Rattle.model.proofs.Homes.{Home}
-use Rattle.model.proofs.Plans.{At, at-low, at-half, at-get, at-on, at-next, at-last, at-in, home-some, home-two}
-use Rattle.model.proofs.Invariant.{Setting, replay-goods, stateAt, Good, Disk, Staged, Progress, AtFilling, AtCommit, AtHome, AtRecover, Lives, filling, committing, writingBack, recovering, disk-home, Advance, further, arrived, advance, replays, tops}
+use Rattle.model.proofs.Plans.{At, at-low, at-half, at-get, at-on, at-next, at-last, at-in, home-some, home-most}
+use Rattle.model.proofs.Invariant.{Premises, replay-goods, stateAt, Good, Disk, Staged, Progress, AtFilling, AtCommit, AtHome, AtRecover, Lives, working, inFilling, inCommitting, inWritingBack, inRecovering, disk-home, Advance, further, arrived, advance, replays, tops}
 use Rattle.model.proofs.Sections.{length-empty, empty-unused}
 use Rattle.model.proofs.Committing.{commit-goes, seal-disk, seal-ends}
 use Rattle.model.specs.declared.Layout.{Layout}
@@ -41,15 +43,10 @@ use Rattle.model.specs.declared.Says.the-variants as saying
 pub never : {A : Type 0} → _≡_ {A = Bool} false true → A
 never e = absurd (let z : _≡_ {A = ℕ} 0 1 = cc in omega arith)
 
-abbrev pub Fills : Phase → Type 0
-Fills Filling = Unit {0}
-Fills (Committing j) = ⊥
-Fills (WritingBack i h) = ⊥
-Fills (Recovering k) = ⊥
-
-abbrev pub FillsLive : Live → Type 0
-FillsLive off = ⊥
-FillsLive (on s st) = Fills (s .phase)
+-- whether what is live is filling
+abbrev pub fillingIn : Live → Bool
+fillingIn off = false
+fillingIn (on s st) = isFilling (s .phase)
 
 pub length-batch : (t : ℕ) (st : List ℕ) (n : ℕ) → length (batchOf t st n) ≡ n
 length-batch t st zero = refl
@@ -72,10 +69,10 @@ get-writes [] i z l = absurd (omega arith)
 get-writes (x ∷ xs) zero z l = refl
 get-writes (x ∷ xs) (suc i) z l = get-writes xs i z (omega arith)
 
-module _ (tag : Tag) (g : Layout) (v₀ : List ℕ) (X : Setting tag g v₀) where
+module _ (tag : Tag) (g : Layout) (v₀ : List ℕ) (X : Premises tag g v₀) where
   pub record Inv (w : World) (l : Ledger) : Type 0 where
     pub lives : Lives tag g v₀ (w .medium) l (w .live)
-    pub fills : w .settled ≡ true → FillsLive (w .live)
+    pub fills : w .settled ≡ true → fillingIn (w .live) ≡ true
 
   pub sound : (n m : ℕ) (p : Phase) → n ≤ entryCount (g .width) → m ≢ 0 → placeOk g n m p ≡ true → stateOk (stateAt g n m p) ≡ true
   unfolding stateOk
@@ -96,43 +93,46 @@ module _ (tag : Tag) (g : Layout) (v₀ : List ℕ) (X : Setting tag g v₀) whe
   unfolding stepOf
   step-runs n m p v st a b c u = ap (stepBy (stateAt g n m p) v st) (passes (stepRows (stateAt g n m p) v st) passed (rw (a, b, c), u))
 
-  -- what a step leads to: the world that it leaves, and the ledger that is told of it
-  abbrev pub StepLeads : List ℕ → Ledger → StepResult → Type 0
-  StepLeads v l o = Inv (stepWorld v o) (note (sectionSize (g .width)) l (stepped (isTaken (o .answer))))
+  -- what an event leads to: the world that it leaves, and the ledger that is told of it
+  abbrev pub Leads : Ledger → Happened → Type 0
+  Leads l x = Inv (x .world) (note (commitSteps g) l (x .told))
 
-  step-filling : (v : List ℕ) (l : Ledger) (n m : ℕ) (st : List ℕ) → Disk tag g v₀ v (l .contents) → AtFilling tag g v₀ v l n m st
-      → StepLeads v l (phaseStep (stateAt g n m Filling) v st Filling)
-  step-filling v l n m st D A = record { lives = filling n m st (rw (still l (A .due)) D) (rw (still l (A .due)) A); fills = λ q. tt }
+  abbrev pub StepLeads : Medium → Ledger → StepResult → Type 0
+  StepLeads d l o = Leads l (byStep (mediumAfter d (o .effect)) o)
+
+  step-filling : (d : Medium) (l : Ledger) (n m : ℕ) (st : List ℕ) → Disk tag g v₀ (volumeIn d) (l .contents) → AtFilling tag g v₀ (volumeIn d) l n m st
+      → StepLeads d l (phaseStep (stateAt g n m Filling) (volumeIn d) st Filling)
+  step-filling d l n m st D A = record { lives = working n m Filling st (inFilling {n = n} (rw (still l (A .toCome)) D) (rw (still l (A .toCome)) A)); fills = λ q. refl }
 
   -- ---- committing
 
-  commit-stores : (v : List ℕ) (l : Ledger) (n m j : ℕ) (st : List ℕ) (p : j < sectionSize (g .width)) (A : AtCommit tag g v₀ v l n m j st)
-      → Dec (j + 1 < sectionSize (g .width)) → StepLeads v l (commitStep (stateAt g n m (Committing j)) v st j)
+  commit-stores : (d : Medium) (l : Ledger) (n m j : ℕ) (st : List ℕ) (p : j < sectionSize (g .width)) (A : AtCommit tag g v₀ (volumeIn d) l n m j st)
+      → Dec (j + 1 < sectionSize (g .width)) → StepLeads d l (commitStep (stateAt g n m (Committing j)) (volumeIn d) st j)
   unfolding commitStep
-  commit-stores v l n m j st p A (yes q) =
+  commit-stores d l n m j st p A (yes q) =
       let m′ : ℕ = sectionSize (g .width) - (j + 1) in
-      let l′ : Ledger = record { contents = l .contents; batch = l .batch; due = m′ ∷ [] } in
-      rw (lt-ltb (j + 1) (sectionSize (g .width)) q, ticks l (sectionSize (g .width) - j) m′ (A .due) (omega arith) (omega arith))
+      let l′ : Ledger = record { contents = l .contents; batch = l .batch; toCome = m′ ∷ [] } in
+      rw (lt-ltb (j + 1) (sectionSize (g .width)) q, ticks l (sectionSize (g .width) - j) m′ (A .toCome) (omega arith) (omega arith))
       (record {
-        lives = committing n m (j + 1) st q (commit-goes tag g v₀ X v l n m j st A p l′ refl refl refl);
+        lives = working n m (Committing (j + 1)) st (inCommitting q (commit-goes tag g v₀ X (volumeIn d) l n m j st A p l′ refl refl refl));
         fills = λ q. never q;
       })
-  commit-stores v l n m j st p A (no q) =
-      let l₁ : Ledger = record { contents = l .contents; batch = l .batch; due = (sectionSize (g .width) - (j + 1)) ∷ [] } in
-      let l′ : Ledger = record { contents = entered (l .contents) (l .batch); batch = []; due = [] } in
-      let w : List ℕ = made v (record { at = sectionAt g ((m - 1) % g .sections) + j; content = sealed g st m j }) in
+  commit-stores d l n m j st p A (no q) =
+      let l₁ : Ledger = record { contents = l .contents; batch = l .batch; toCome = (sectionSize (g .width) - (j + 1)) ∷ [] } in
+      let l′ : Ledger = record { contents = entered (l .contents) (l .batch); batch = []; toCome = [] } in
+      let w : List ℕ = made (volumeIn d) (record { at = sectionAt g ((m - 1) % g .sections) + j; content = sealed g st m j }) in
       let z : j + 1 ≡ sectionSize (g .width) = omega arith in
-      let B : AtCommit tag g v₀ w l₁ n m (j + 1) st = commit-goes tag g v₀ X v l n m j st A p l₁ refl refl refl in
-      rw (le-ltb (j + 1) (sectionSize (g .width)) (omega arith), enters l (sectionSize (g .width) - j) (A .due) (omega arith))
+      let B : AtCommit tag g v₀ w l₁ n m (j + 1) st = commit-goes tag g v₀ X (volumeIn d) l n m j st A p l₁ refl refl refl in
+      rw (le-ltb (j + 1) (sectionSize (g .width)) (omega arith), enters l (sectionSize (g .width) - j) (A .toCome) (omega arith))
       (record {
-        lives = writingBack n (m + 1) 0 0 st (seal-disk tag g v₀ X w l₁ n m (j + 1) st B z)
-            (seal-ends tag g v₀ X w l₁ n m (j + 1) st B z l′ refl refl refl);
+        lives = working n (m + 1) (WritingBack 0 0) st (inWritingBack (seal-disk tag g v₀ X w l₁ n m (j + 1) st B z)
+            (seal-ends tag g v₀ X w l₁ n m (j + 1) st B z l′ refl refl refl));
         fills = λ q. never q;
       })
 
-  step-commit : (v : List ℕ) (l : Ledger) (n m j : ℕ) (st : List ℕ) → j < sectionSize (g .width) → AtCommit tag g v₀ v l n m j st
-      → StepLeads v l (commitStep (stateAt g n m (Committing j)) v st j)
-  step-commit v l n m j st p A = commit-stores v l n m j st p A (decLt (j + 1) (sectionSize (g .width)))
+  step-commit : (d : Medium) (l : Ledger) (n m j : ℕ) (st : List ℕ) → j < sectionSize (g .width) → AtCommit tag g v₀ (volumeIn d) l n m j st
+      → StepLeads d l (commitStep (stateAt g n m (Committing j)) (volumeIn d) st j)
+  step-commit d l n m j st p A = commit-stores d l n m j st p A (decLt (j + 1) (sectionSize (g .width)))
 
   -- ---- bringing entries home
 
@@ -173,7 +173,10 @@ module _ (tag : Tag) (g : Layout) (v₀ : List ℕ) (X : Setting tag g v₀) whe
   unfolding homeStep
   home-filled s v st e h p left = refl
 
-  module _ (v : List ℕ) (l : Ledger) (D : Disk tag g v₀ v (l .contents)) where
+  module _ (d : Medium) (l : Ledger) (D : Disk tag g v₀ (volumeIn d) (l .contents)) where
+    abbrev v : List ℕ
+    v = volumeIn d
+
     -- writing back entry i
     module _ (n m i h : ℕ) (st : List ℕ) (A : AtHome tag g v₀ v l n m i h st) where
       abbrev e : Entry
@@ -206,64 +209,64 @@ module _ (tag : Tag) (g : Layout) (v₀ : List ℕ) (X : Setting tag g v₀) whe
       within-now : (h : ℕ) → h < homeCount g e → (s : ℕ) → mentions L s ≡ true → mentions (writes (replay g (w h))) s ≡ true
       within-now h k s q = rw (replays tag g v₀ X v (l .contents) D e G h k) (A .within s q)
 
-      advanced : Advance tag g v₀ X v (l .contents) D e G L i h → StepLeads v l (writeBackStep (stateAt g n m (WritingBack i h)) v st i h)
+      advanced : Advance tag g v₀ X v (l .contents) D e G L i h → StepLeads d l (writeBackStep (stateAt g n m (WritingBack i h)) v st i h)
       advanced (further b p) =
           rw (ne-eqb (h + 1) (homeCount g e) (omega arith))
-          (subst (StepLeads v l) (sym (home-stored (stateAt g n m (WritingBack i h)) v st e h (WritingBack i (h + 1)) (emptySection (g .width))))
-          (rw (still l (A .due))
+          (subst (StepLeads d l) (sym (home-stored (stateAt g n m (WritingBack i h)) v st e h (WritingBack i (h + 1)) (emptySection (g .width))))
+          (rw (still l (A .toCome))
           (record {
-            lives = writingBack n m i (h + 1) st (disk-now h (A .half))
+            lives = working n m (WritingBack i (h + 1)) st (inWritingBack (disk-now h (A .half))
                 (record {
                   staged = A .staged;
                   empty = A .empty;
-                  due = A .due;
+                  toCome = A .toCome;
                   next = next-now h (A .half);
                   place = A .place;
                   half = b;
                   within = within-now h (A .half);
                   progress = p;
-                });
+                }));
             fills = λ q. never q;
           })))
       advanced (arrived b p) = go (ℕ-discrete (i + 1) n)
         where
-          go : Dec (i + 1 ≡ n) → StepLeads v l (writeBackStep (stateAt g n m (WritingBack i h)) v st i h)
+          go : Dec (i + 1 ≡ n) → StepLeads d l (writeBackStep (stateAt g n m (WritingBack i h)) v st i h)
           go (yes q) =
               rw (eq-eqb (h + 1) (homeCount g e) b, eq-eqb (i + 1) n q)
-              (subst (StepLeads v l) (sym (home-filled (stateAt g n m (WritingBack i h)) v st e h (WritingBack (i + 1) 0) (emptySection (g .width))))
-              (rw (still l (A .due))
+              (subst (StepLeads d l) (sym (home-filled (stateAt g n m (WritingBack i h)) v st e h (WritingBack (i + 1) 0) (emptySection (g .width))))
+              (rw (still l (A .toCome))
               (record {
-                lives = filling 0 m (emptySection (g .width)) (disk-now h (A .half))
+                lives = working 0 m Filling (emptySection (g .width)) (inFilling (disk-now h (A .half))
                     (record {
                       staged = staged-empty;
                       batch = sym (A .empty);
-                      due = A .due;
+                      toCome = A .toCome;
                       next = next-now h (A .half);
                       clean = pass-ends (g .provided)
                           (subst (Pass (g .provided) (Home g tag (w h)) (l .contents) L) (sym (length-batch (g .width) st n ∙ sym q ∙ add-one i)) p);
-                    });
-                fills = λ q. tt;
+                    }));
+                fills = λ q. refl;
               })))
           go (no q) =
               rw (eq-eqb (h + 1) (homeCount g e) b, ne-eqb (i + 1) n q)
-              (subst (StepLeads v l) (sym (home-stored (stateAt g n m (WritingBack i h)) v st e h (WritingBack (i + 1) 0) (emptySection (g .width))))
-              (rw (still l (A .due))
+              (subst (StepLeads d l) (sym (home-stored (stateAt g n m (WritingBack i h)) v st e h (WritingBack (i + 1) 0) (emptySection (g .width))))
+              (rw (still l (A .toCome))
               (record {
-                lives = writingBack n m (i + 1) 0 st (disk-now h (A .half))
+                lives = working n m (WritingBack (i + 1) 0) st (inWritingBack {i = i + 1} {h = 0} (disk-now h (A .half))
                     (record {
                       staged = A .staged;
                       empty = A .empty;
-                      due = A .due;
+                      toCome = A .toCome;
                       next = next-now h (A .half);
                       place = omega (arith, A .place);
                       half = omega (arith, home-some g (entryOf (g .width) st (i + 1)));
                       within = within-now h (A .half);
                       progress = subst (Pass (g .provided) (Home g tag (w h)) (l .contents) L) (sym (add-one i)) p;
-                    });
+                    }));
                 fills = λ q. never q;
               })))
 
-    step-home : (n m i h : ℕ) (st : List ℕ) → AtHome tag g v₀ v l n m i h st → StepLeads v l (writeBackStep (stateAt g n m (WritingBack i h)) v st i h)
+    step-home : (n m i h : ℕ) (st : List ℕ) → AtHome tag g v₀ v l n m i h st → StepLeads d l (writeBackStep (stateAt g n m (WritingBack i h)) v st i h)
     step-home n m i h st A =
         advanced n m i h st A
         (advance tag g v₀ X v (l .contents) D (entryOf (g .width) st i) (G n m i h st A) (batchOf (g .width) st n) i (in-L n m i h st A) (got n m i h st A) h (A .half) (A .progress))
@@ -313,39 +316,39 @@ module _ (tag : Tag) (g : Layout) (v₀ : List ℕ) (X : Setting tag g v₀) whe
       nextJ h b = A .next ∙ ap (λ (y : ℕ). y + 1) (sym (tops tag g v₀ X v (l .contents) D f GJ h b))
 
       abbrev After : ℕ → Type 0
-      After h = StepLeads v l (homeStep s v st f h (eqb (k + 1) (storesOf g J)) (Recovering (k + 1)) st)
+      After h = StepLeads d l (homeStep s v st f h (eqb (k + 1) (stepsOf g J)) (Recovering (k + 1)) st)
 
       -- not the last store
       go-on : (h i h′ : ℕ) → h < homeCount g f → At g J (k + 1) i h′ → Progress tag g v₀ (u h) (l .contents) (writes J) i h′ → After h
       go-on h i h′ b a p =
-          rw (ne-eqb (k + 1) (storesOf g J) (omega (arith, at-in g a)))
-          (subst (StepLeads v l) (sym (home-stored s v st f h (Recovering (k + 1)) st))
-          (rw (still l (A .due))
+          rw (ne-eqb (k + 1) (stepsOf g J) (omega (arith, at-in g a)))
+          (subst (StepLeads d l) (sym (home-stored s v st f h (Recovering (k + 1)) st))
+          (rw (still l (A .toCome))
           (record {
-            lives = recovering m (k + 1) st (diskJ h b)
+            lives = working 0 m (Recovering (k + 1)) st (inRecovering {k = k + 1} (diskJ h b)
                 (record {
                   staged = A .staged;
                   empty = A .empty;
-                  due = A .due;
+                  toCome = A .toCome;
                   next = nextJ h b;
                   i = i;
                   h = h′;
                   spot = rw (sameJ h b) a;
                   progress = rw (sameJ h b) p;
-                });
+                }));
             fills = λ q. never q;
           })))
 
-      ended : (h : ℕ) → h < homeCount g f → k + 1 ≡ storesOf g J → Pass (g .provided) (Home g tag (u h)) (l .contents) (writes J) (length (writes J)) → After h
+      ended : (h : ℕ) → h < homeCount g f → k + 1 ≡ stepsOf g J → Pass (g .provided) (Home g tag (u h)) (l .contents) (writes J) (length (writes J)) → After h
       ended h b e p =
-          rw (eq-eqb (k + 1) (storesOf g J) e)
-          (subst (StepLeads v l) (sym (home-filled s v st f h (Recovering (k + 1)) st))
-          (rw (still l (A .due))
+          rw (eq-eqb (k + 1) (stepsOf g J) e)
+          (subst (StepLeads d l) (sym (home-filled s v st f h (Recovering (k + 1)) st))
+          (rw (still l (A .toCome))
           (record {
-            lives = filling 0 m st (diskJ h b)
+            lives = working 0 m Filling st (inFilling (diskJ h b)
                 (record
-                { staged = A .staged; batch = sym (A .empty); due = A .due; next = nextJ h b; clean = pass-ends (g .provided) p });
-            fills = λ q. tt;
+                { staged = A .staged; batch = sym (A .empty); toCome = A .toCome; next = nextJ h b; clean = pass-ends (g .provided) p }));
+            fills = λ q. refl;
           })))
 
       recover-half : (h : ℕ) → At g J k ri h → Advance tag g v₀ X v (l .contents) D f GJ (writes J) ri h → After h
@@ -359,7 +362,7 @@ module _ (tag : Tag) (g : Layout) (v₀ : List ℕ) (X : Setting tag g v₀) whe
           go (no q) =
               go-on h (suc ri) 0 (at-half g a) (at-next g (λ y. omega (arith, home-some g (y .entry))) a b (omega (arith, in-J))) p
 
-      step-recover : StepLeads v l (recoverStep (stateAt g 0 m (Recovering k)) v st k)
+      step-recover : StepLeads d l (recoverStep (stateAt g 0 m (Recovering k)) v st k)
       step-recover =
           rw (at-get g (A .spot))
           (recover-half (A .h) (A .spot)
@@ -368,13 +371,16 @@ module _ (tag : Tag) (g : Layout) (v₀ : List ℕ) (X : Setting tag g v₀) whe
       -- the store leaves the replay as it is
       pub replay-stays : replay g (afterEffect v (recoverStep (stateAt g 0 m (Recovering k)) v st k .effect)) ≡ replay g v
       replay-stays =
-          rw (at-get g (A .spot), home-effect (stateAt g 0 m (Recovering k)) v st f (A .h) (eqb (k + 1) (storesOf g J)) (Recovering (k + 1)) st)
+          rw (at-get g (A .spot), home-effect (stateAt g 0 m (Recovering k)) v st f (A .h) (eqb (k + 1) (stepsOf g J)) (Recovering (k + 1)) st)
           (sameJ (A .h) (at-half g (A .spot)))
 
+      abbrev pub live-after : StepResult → Live
+      live-after o = on (o .state) (o .staging)
+
       -- a store that is not the last leads to the next
-      pub recover-next : k + 1 < storesOf g (replay g v) → stepWorld v (recoverStep (stateAt g 0 m (Recovering k)) v st k) .live ≡ on (stateAt g 0 m (Recovering (k + 1))) st
+      pub recover-next : k + 1 < stepsOf g (replay g v) → live-after (recoverStep (stateAt g 0 m (Recovering k)) v st k) ≡ on (stateAt g 0 m (Recovering (k + 1))) st
       unfolding homeStep
-      recover-next l = rw (at-get g (A .spot), ne-eqb (k + 1) (storesOf g (replay g v)) (omega arith))
+      recover-next l = rw (at-get g (A .spot), ne-eqb (k + 1) (stepsOf g (replay g v)) (omega arith))
 
   -- ---- every live state's step is that of its phase: no rule of the call is met
 
@@ -384,25 +390,25 @@ module _ (tag : Tag) (g : Layout) (v₀ : List ℕ) (X : Setting tag g v₀) whe
   sound-runs v n m st p S z a b c u =
       step-runs n m p v st (sound n m p (S .count) z a) (sound-volume v n m p b c) (sound-staging st (S .size)) u
 
-  pub live-runs : (v : List ℕ) (l : Ledger) (s : State) (st : List ℕ) → Lives tag g v₀ v l (on s st) → stepOf s v st ≡ phaseStep s v st (s .phase)
-  live-runs v l s st (filling n m _ D A) = sound-runs v n m st Filling (A .staged) (omega (arith, A .next)) refl (D .sized) refl tt
-  live-runs v l s st (committing n m j _ p A) =
-      sound-runs v n m st (Committing j) (A .staged) (omega (arith, A .next))
+  pub live-runs : (d : Medium) (l : Ledger) (s : State) (st : List ℕ) → Lives tag g v₀ d l (on s st) → stepOf s (volumeIn d) st ≡ phaseStep s (volumeIn d) st (s .phase)
+  live-runs d l s st (working n m _ _ (inFilling D A)) = sound-runs (volumeIn d) n m st Filling (A .staged) (omega (arith, A .next)) refl (D .sized) refl tt
+  live-runs d l s st (working n m (Committing j) _ (inCommitting p A)) =
+      sound-runs (volumeIn d) n m st (Committing j) (A .staged) (omega (arith, A .next))
       (rw (lt-ltb j (sectionSize (g .width)) p, lt-ltb 0 n (A .some), lt-ltb m (2 ^ 64 - 1) (A .given)))
       (A .torn .long ∙ A .disk .sized) refl tt
-  live-runs v l s st (writingBack n m i h _ D A) =
-      sound-runs v n m st (WritingBack i h) (A .staged) (omega (arith, A .next))
-      (rw (lt-ltb i n (A .place), lt-ltb h 2 (omega (arith, A .half, home-two g (entryOf (g .width) st i)))))
-      (D .sized) refl (lt-leb (g .provided) (entryOf (g .width) st i .sector) (G v l D n m i h st A .low), tt)
-  live-runs v l s st (recovering m k _ D A) =
-      sound-runs v 0 m st (Recovering k) (A .staged) (omega (arith, A .next)) refl (D .sized) (lt-ltb k (storesOf g (replay g v)) (at-in g (A .spot)))
-      (rw (at-get g (A .spot)) (lt-leb (g .provided) (f v l D m k st A .sector) (GJ v l D m k st A .low)), tt)
+  live-runs d l s st (working n m (WritingBack i h) _ (inWritingBack D A)) =
+      sound-runs (volumeIn d) n m st (WritingBack i h) (A .staged) (omega (arith, A .next))
+      (rw (lt-ltb i n (A .place), lt-ltb h mostHomeStores (omega (arith, A .half, home-most g (entryOf (g .width) st i)))))
+      (D .sized) refl (lt-leb (g .provided) (entryOf (g .width) st i .sector) (G d l D n m i h st A .low), tt)
+  live-runs d l s st (working n m (Recovering k) _ (inRecovering D A)) =
+      sound-runs (volumeIn d) 0 m st (Recovering k) (A .staged) (omega (arith, A .next)) refl (D .sized) (lt-ltb k (stepsOf g (replay g (volumeIn d))) (at-in g (A .spot)))
+      (rw (at-get g (A .spot)) (lt-leb (g .provided) (f d l D m k st A .sector) (GJ d l D m k st A .low)), tt)
 
-  phase-keeps : (v : List ℕ) (l : Ledger) (s : State) (st : List ℕ) → Lives tag g v₀ v l (on s st) → StepLeads v l (phaseStep s v st (s .phase))
-  phase-keeps v l s st (filling n m _ D A) = step-filling v l n m st D A
-  phase-keeps v l s st (committing n m j _ p A) = step-commit v l n m j st p A
-  phase-keeps v l s st (writingBack n m i h _ D A) = step-home v l D n m i h st A
-  phase-keeps v l s st (recovering m k _ D A) = step-recover v l D m k st A
+  phase-keeps : (d : Medium) (l : Ledger) (s : State) (st : List ℕ) → Lives tag g v₀ d l (on s st) → StepLeads d l (phaseStep s (volumeIn d) st (s .phase))
+  phase-keeps d l s st (working n m _ _ (inFilling D A)) = step-filling d l n m st D A
+  phase-keeps d l s st (working n m (Committing j) _ (inCommitting p A)) = step-commit d l n m j st p A
+  phase-keeps d l s st (working n m (WritingBack i h) _ (inWritingBack D A)) = step-home d l D n m i h st A
+  phase-keeps d l s st (working n m (Recovering k) _ (inRecovering D A)) = step-recover d l D m k st A
 
-  pub step-keeps : (v : List ℕ) (l : Ledger) (s : State) (st : List ℕ) → Lives tag g v₀ v l (on s st) → StepLeads v l (stepOf s v st)
-  step-keeps v l s st A = subst (StepLeads v l) (sym (live-runs v l s st A)) (phase-keeps v l s st A)
+  pub step-keeps : (d : Medium) (l : Ledger) (s : State) (st : List ℕ) → Lives tag g v₀ d l (on s st) → StepLeads d l (stepOf s (volumeIn d) st)
+  step-keeps d l s st A = subst (StepLeads d l) (sym (live-runs d l s st A)) (phase-keeps d l s st A)

@@ -16,8 +16,8 @@ use Rattle.model.specs.declared.Says.{Says}
 use Rattle.model.specs.declared.Says.the-variants.{Nothing}
 use Rattle.model.specs.declared.State.{State}
 use Rattle.model.specs.Store.{afterEffect}
-use Rattle.model.specs.Step.{StepResult, stepOf}
-use Rattle.model.specs.World.{stepAcknowledges}
+use Rattle.model.specs.Step.{stepOf}
+use Rattle.model.specs.StepResult.{stepAcknowledges, StepResult}
 
 pub record AdvanceResult : Type 0 where
   pub answer : Answer ℕ (Done × Says)

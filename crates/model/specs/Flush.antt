@@ -1,4 +1,4 @@
--- Flush: document 01, "Working a volume", Flush; refusals 1, 9 unless filling, 10 if the batch isn't empty and the next id is 2^64 − 1.
+-- Flush: R42; refusals in the order of R75.
 --
 -- flushRows s : the rules of the call, in order
 -- flushOf s   : the call: its answer and the state afterwards
@@ -8,14 +8,9 @@ use mathlib.Core.List.{List, [], _∷_}
 use lib.Dec.{ltb, eqb}
 use Rattle.octets.specs.Answer.{Answer, taken, refused, refuse}
 use Rattle.octets.specs.Choice.{pick, firstMet}
-use Rattle.model.specs.declared.Phase.{Phase}
 use Rattle.model.specs.declared.Phase.the-variants.{Committing}
 use Rattle.model.specs.declared.State.{State}
-use Rattle.model.specs.State.{Verdict, passed, lastId, stateOk, isFilling}
-
--- s in the phase p
-abbrev pub inPhase : State → Phase → State
-inPhase s p = record { layout = s .layout; phase = p; count = s .count; id = s .id }
+use Rattle.model.specs.State.{Verdict, passed, lastId, stateOk, isFilling, inPhase}
 
 abbrev pub flushRows : State → List (Bool × Verdict)
 flushRows s =
@@ -29,7 +24,6 @@ pub record FlushResult : Type 0 where
   pub answer : Answer ℕ Bool
   pub state : State
 
--- "Flush of an empty batch is acknowledged at once. Otherwise committing begins."
 abbrev pub flushBy : State → Verdict → FlushResult
 flushBy s (taken x) =
     pick (eqb (s .count) 0)

@@ -1,7 +1,8 @@
--- Format: document 01, "Working a volume", Format; refusals 1, 2, 5, 3.
+-- Format: R35, R36; refusals in the order of R72.
 --
 -- formatRows g v      : the rules of the call, in order
 -- freshRun tag g q n  : run q with n data sectors: their tags, zeros to the end of the tag area, zero data
+-- lastRun g           : the number of the last run; lastLength g: the data sectors still needed there (R18)
 -- freshVolume tag g v : the volume v as format leaves it
 -- formatOf tags g v   : the call: its answer and the volume afterwards
 use Prim.Native.Nat.{ℕ, _+_, _-_, _*_, _/_, _%_}
@@ -15,14 +16,12 @@ use Rattle.octets.specs.Sectors.{sectorSize}
 use Rattle.model.specs.declared.Layout.{Layout}
 use Rattle.model.specs.Layout.{sectionSize, runLength, tagArea, needed, layoutOk}
 use Rattle.model.specs.Superblock.{superblockOf, superblockAt, isZero}
-use Rattle.model.specs.Section.{collect}
+use Rattle.octets.specs.Lists.{collect}
 use Rattle.model.specs.Tag.{Tag, Tags}
 use Rattle.model.specs.State.{Verdict, passed, volumeLoanOk}
 
 abbrev pub zeros : ℕ → List ℕ
 zeros n = replicate n 0
-
--- "It makes the journal, tag padding and data zero, each tag fit, and writes the superblock."
 
 abbrev pub freshTags : Tag → Layout → ℕ → ℕ → List ℕ
 freshTags tag g q n = collect n (λ i. tag (q * runLength g + i) (zeros sectorSize))
@@ -30,7 +29,6 @@ freshTags tag g q n = collect n (λ i. tag (q * runLength g + i) (zeros sectorSi
 abbrev pub freshRun : Tag → Layout → ℕ → ℕ → List ℕ
 freshRun tag g q n = freshTags tag g q n ++ (zeros (tagArea g * sectorSize - n * g .width) ++ zeros (n * sectorSize))
 
--- the number of the last run, and of its data sectors
 abbrev pub lastRun : Layout → ℕ
 lastRun g = (g .provided - 1) / runLength g
 

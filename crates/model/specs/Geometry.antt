@@ -1,4 +1,4 @@
--- The geometry of a layout in range, over any T: document 01, "Volume layout, in 512-byte sectors". The proof is in proofs/Geometry.
+-- The geometry of a layout in range, over any T (R103). The proof is in proofs/Geometry.
 --
 -- Apart a n b m : the n units from a on and the m units from b on have none in common
 -- Geometry g    : where the parts of a volume lie; in sectors, a tag in bytes

@@ -1,12 +1,10 @@
--- What holds beside demand 3, which says nothing of a volume whose opens are all refused. For the world and the ledger after every list of calls and
+-- What holds beside demand 3, which says nothing of a volume whose opens are all refused (R102). For the world and the ledger after every list of calls and
 -- cuts on a formatted volume. The proof is in proofs/Guarantees.
 --
--- worldOf tags g v es  : the world after the events es on the volume that format left of v
--- toldOf tags g v es   : the ledger of their transcript
--- Outside g b          : byte b is one that no step changes
+-- Outside g b          : byte b is in no journal sector, in no data sector and in no tag: reserved (R16), superblock, tag padding (R20), behind the runs (R24)
 -- Guarantees ..        : what holds of them
--- Guaranteed           : that it does, over any family of tag functions; GuaranteedSha256: for document 01's own tag
--- FreshOpens           : how a volume that format left is opened
+-- Guaranteed           : that it does, over any family of tag functions; GuaranteedSha256: for the tag of R14, where nothing is left to assume
+-- FreshOpens           : a volume that format left holds the layout that was formatted, and an open finds nothing to replay
 use Prim.Native.Nat.{ℕ, _+_, _*_, _≤_, _<_}
 use mathlib.Core.Bool.{true}
 use mathlib.Core.Logic.{_⊎_}
@@ -22,23 +20,18 @@ use Rattle.model.specs.declared.State.{State}
 use Rattle.model.specs.Layout.{sectionSize, sectionAt, base, dataAt, tagByte, needed}
 use Rattle.model.specs.Superblock.{superblockAt, layoutIn}
 use Rattle.model.specs.Section.{emptySection}
-use Rattle.model.specs.Tag.{Tags, tagOf}
+use Rattle.model.specs.Tag.{Tags, TagsOf, tagOf}
 use Rattle.model.specs.State.{passed}
 use Rattle.model.specs.Format.{formatOf}
 use Rattle.model.specs.Open.{openOf}
 use Rattle.model.specs.Query.{queryOf}
 use Rattle.model.specs.Step.{stepOf}
-use Rattle.model.specs.Ledger.{Ledger, entersNext, ledgerOf}
-use Rattle.model.specs.World.{Event, anOpen, aStep, off, on, World, volumeIn, begin, stepAcknowledges, after, transcript}
+use Rattle.model.specs.Ledger.{Ledger, entersNext}
+use Rattle.model.specs.Medium.{volumeIn}
+use Rattle.model.specs.World.{Event, anOpen, aStep, settingOf, off, on, World, after}
+use Rattle.model.specs.Demand3.{worldAfter, ledgerAfter}
+use Rattle.model.specs.StepResult.{stepAcknowledges}
 
-abbrev pub worldOf : Tags → Layout → List ℕ → List Event → World
-worldOf tags g v es = after tags (g .reserved) (begin (formatOf tags g v .volume)) es
-
-abbrev pub toldOf : Tags → Layout → List ℕ → List Event → Ledger
-toldOf tags g v es = ledgerOf (sectionSize (g .width)) (transcript tags (g .reserved) (begin (formatOf tags g v .volume)) es)
-
--- byte b of the volume is in no journal sector, in no data sector and in no tag: what format leaves there, reserved sectors, superblock, tag padding and
--- the sectors behind the last run, no step changes
 pub record Outside (g : Layout) (b : ℕ) : Type 0 where
   pub journal : (b < sectionAt g 0 * sectorSize) ⊎ (base g * sectorSize ≤ b)
   pub contents : (s : ℕ) → s < g .provided → (b < dataAt g s * sectorSize) ⊎ (dataAt g s * sectorSize + sectorSize ≤ b)
@@ -50,32 +43,30 @@ pub record Guarantees (tags : Tags) (g : Layout) (v₀ : List ℕ) (w : World) (
       → isTaken (openOf tags (g .reserved) (volumeIn (w .medium)) staging .answer) ≡ true
   -- no step is refused
   pub steps : (s : State) (staging : List ℕ) → w .live ≡ on s staging → isTaken (stepOf s (volumeIn (w .medium)) staging .answer) ≡ true
-  -- acknowledged is said exactly when the ledger enters a batch
+  -- acknowledged is said exactly when the ledger enters a batch (R45, R64)
   pub acknowledged : (s : State) (staging : List ℕ) → w .live ≡ on s staging
       → stepAcknowledges (stepOf s (volumeIn (w .medium)) staging .answer) ≡ entersNext l
-  -- open's number is the number of steps to filling: the volume is settled after as many, and not before
+  -- open's number is the number of steps to filling (R40): the volume is settled after as many, and not before
   pub counts : (staging : List ℕ) (s : State) (n : ℕ) → w .live ≡ off
       → openOf tags (g .reserved) (volumeIn (w .medium)) staging .answer ≡ taken (s, n)
-      → (k : ℕ) → k ≤ n → after tags (g .reserved) w (anOpen staging ∷ replicate k aStep) .settled ≡ eqb k n
+      → (k : ℕ) → k ≤ n → after (settingOf tags g) w (anOpen staging ∷ replicate k aStep) .settled ≡ eqb k n
   -- the superblock holds the layout that was formatted, and what is live has it
   pub layout : layoutIn (g .reserved) (superblockAt (g .reserved) (volumeIn (w .medium))) ≡ g
   pub live : (s : State) (staging : List ℕ) → w .live ≡ on s staging → s .layout ≡ g
-  -- "Unused tag bytes are zero at format and never changed"; "Sectors behind the last run are never touched."
+  -- R20 and R24: what format leaves there, no step changes
   pub untouched : (b : ℕ) → Outside g b → getD (volumeIn (w .medium)) b 0 ≡ getD v₀ b 0
   pub behind : (a : ℕ) → needed g ≤ a → sectorAt (volumeIn (w .medium)) a ≡ sectorAt v₀ a
 
 abbrev pub GuaranteedFor : Tags → Layout → List ℕ → Type 0
 GuaranteedFor tags g v =
-    formatOf tags g v .answer ≡ passed → (es : List Event) → Guarantees tags g (formatOf tags g v .volume) (worldOf tags g v es) (toldOf tags g v es)
+    formatOf tags g v .answer ≡ passed → (es : List Event)
+    → Guarantees tags g (formatOf tags g v .volume) (worldAfter tags g v es) (ledgerAfter tags g v es)
 
 abbrev pub Guaranteed : Type 0
-Guaranteed = (tags : Tags) (g : Layout) → ((s : ℕ) (bytes : List ℕ) → length (tags (g .width) s bytes) ≡ g .width) → (v : List ℕ) → GuaranteedFor tags g v
+Guaranteed = (tags : Tags) (g : Layout) → TagsOf tags (g .width) → (v : List ℕ) → GuaranteedFor tags g v
 
--- for document 01's tag nothing is left to assume
 abbrev pub GuaranteedSha256 : Type 0
 GuaranteedSha256 = (g : Layout) (v : List ℕ) → GuaranteedFor tagOf g v
-
--- ---- a volume that format left: it holds the layout that was formatted, and an open finds nothing to replay
 
 pub record OpensFresh (tags : Tags) (g : Layout) (v₀ : List ℕ) : Type 0 where
   pub queried : queryOf (g .reserved) v₀ ≡ taken (g, sectionSize (g .width) * sectorSize)
@@ -85,5 +76,4 @@ pub record OpensFresh (tags : Tags) (g : Layout) (v₀ : List ℕ) : Type 0 wher
 
 abbrev pub FreshOpens : Type 0
 FreshOpens =
-    (tags : Tags) (g : Layout) → ((s : ℕ) (bytes : List ℕ) → length (tags (g .width) s bytes) ≡ g .width) → (v : List ℕ)
-    → formatOf tags g v .answer ≡ passed → OpensFresh tags g (formatOf tags g v .volume)
+    (tags : Tags) (g : Layout) → TagsOf tags (g .width) → (v : List ℕ) → formatOf tags g v .answer ≡ passed → OpensFresh tags g (formatOf tags g v .volume)

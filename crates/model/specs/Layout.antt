@@ -1,18 +1,17 @@
--- Sizes and addresses: document 01, "Volume layout, in 512-byte sectors" and "A journal section". Stated once, over T.
--- Unless another unit is named, a size is in sectors, and an address is the number of a sector of the volume.
+-- Sizes and addresses, stated once over T (R103). Unless another unit is named, a size is in sectors, and an address is the number of a sector of the
+-- volume. The parameters: reserved is r, 2 ^ shift is N, width is T, sections is S, provided is P.
 --
 -- entrySize t      : the bytes of a journal entry
 -- perSector t      : the entries in a metadata sector
 -- entryCount t     : E, the entries of a section
 -- sectionSize t    : M, the size of a section
--- runLength g      : N, the data sectors of a run
--- tagArea g        : A, the size of a run's tag area
 -- sectionAt g k    : the first sector of section k
 -- base g           : B, the first sector behind the journal
+-- runLength g      : N, the data sectors of a run
+-- tagArea g        : A, the size of a run's tag area
 -- runAt g s        : the first sector of the run that has logical sector s
 -- dataAt g s       : where logical sector s lies
--- tagPlace g s     : the byte of the run's tag area at which the tag of s starts; tagSector g s and tagOffset g s: the sector with it, and the byte there
--- tagByte g s      : the byte of the volume at which the tag of s starts
+-- tagByte g s      : the byte of the volume at which the tag of s starts: byte tagOffset g s of sector tagSector g s
 -- needed g         : the sectors that the layout needs
 -- layoutOk g       : whether every parameter is in range
 use Prim.Native.Nat.{ℕ, _+_, _-_, _*_, _/_, _%_, _^_}
@@ -21,7 +20,7 @@ use lib.Dec.{leb, eqb}
 use Rattle.octets.specs.Sectors.{sectorSize}
 use Rattle.model.specs.declared.Layout.{Layout}
 
--- ---- limits: "Ranges: volume at most 65,536 sectors; r 0 to 64; log2 N 3 to 15; T is 8, 16 or 32 ..; S 1 to 64; P 1 to 65,536."
+-- ---- limits: R25
 
 abbrev pub mostSectors : ℕ
 mostSectors = 65536
@@ -41,8 +40,7 @@ mostSections = 64
 abbrev pub mostProvided : ℕ
 mostProvided = 65536
 
--- ---- a section: "An entry is the logical sector (8 bytes), the last 8 data bytes, the tag. A metadata sector has as many whole entries as fit in 496
--- bytes"; "8 metadata sectors, then one data sector for each entry"
+-- ---- a section: R27, an entry has a logical sector (8 bytes), the last 8 data bytes and the tag; R28, whole entries in 496 bytes; R26, M = 8 + E
 
 abbrev pub entrySize : ℕ → ℕ
 entrySize t = 16 + t
@@ -56,7 +54,7 @@ entryCount t = 8 * perSector t
 abbrev pub sectionSize : ℕ → ℕ
 sectionSize t = 8 + entryCount t
 
--- ---- the volume: reserved sectors, 8 sectors of superblock, the journal, the runs
+-- ---- the volume: R15, reserved sectors, superblock, journal, runs
 
 abbrev pub superblockSize : ℕ
 superblockSize = 8
@@ -64,44 +62,45 @@ superblockSize = 8
 abbrev pub sectionAt : Layout → ℕ → ℕ
 sectionAt g k = g .reserved + superblockSize + k * sectionSize (g .width)
 
--- "The base B is r + 8 + S × M."
+-- R21: B = r + 8 + S × M
 abbrev pub base : Layout → ℕ
 base g = sectionAt g (g .sections)
 
 abbrev pub runLength : Layout → ℕ
 runLength g = 2 ^ g .shift
 
--- "A = 8 × ceil(N × T / 4096)"
+-- R19: A = 8 × ceil(N × T / 4096)
 abbrev pub tagArea : Layout → ℕ
 tagArea g = 8 * ((runLength g * g .width + 4095) / 4096)
 
+-- R18: a run is A sectors of tags and N of data
 abbrev pub runAt : Layout → ℕ → ℕ
 runAt g s = base g + s / runLength g * (tagArea g + runLength g)
 
--- "Sector s lies at B + (s div N) × (A + N) + A + (s mod N)."
+-- R22: B + (s div N) × (A + N) + A + (s mod N)
 abbrev pub dataAt : Layout → ℕ → ℕ
 dataAt g s = runAt g s + tagArea g + s % runLength g
 
-abbrev pub tagPlace : Layout → ℕ → ℕ
-tagPlace g s = s % runLength g * g .width
+-- the byte of its run's tag area at which the tag of s starts
+abbrev pub tagStart : Layout → ℕ → ℕ
+tagStart g s = s % runLength g * g .width
 
--- "Its tag starts at byte (B + (s div N) × (A + N)) × 512 + (s mod N) × T."
+-- R23: (B + (s div N) × (A + N)) × 512 + (s mod N) × T
 abbrev pub tagByte : Layout → ℕ → ℕ
-tagByte g s = runAt g s * sectorSize + tagPlace g s
+tagByte g s = runAt g s * sectorSize + tagStart g s
 
 abbrev pub tagSector : Layout → ℕ → ℕ
-tagSector g s = runAt g s + tagPlace g s / sectorSize
+tagSector g s = runAt g s + tagStart g s / sectorSize
 
 abbrev pub tagOffset : Layout → ℕ → ℕ
-tagOffset g s = tagPlace g s % sectorSize
+tagOffset g s = tagStart g s % sectorSize
 
--- "the last run has only the data sectors still needed"
+-- R18: the last run ends with the last data sector
 abbrev pub needed : Layout → ℕ
 needed g = dataAt g (g .provided - 1) + 1
 
--- ---- ranges
+-- ---- ranges: R25
 
--- "T is 8, 16 or 32 and any other number is refused"
 unfoldable pub widthOk : ℕ → Bool
 widthOk t = eqb t 8 || eqb t 16 || eqb t 32
 

@@ -1,27 +1,30 @@
--- The specification of the volume: what document 01 says of layout, journal and calls, then its ledger and demand 3. Query, Advance and NextStore are calls
--- that document 01 does not have; Geometry, Guarantees, ReadBack, FirstRule and Reserved state what holds beside demand 3.
-pub mod Refusal
+-- The specification of the volume, in the order of docs/RULES.md: sizes, tags, sections, the journal, the calls, the ledger and demand 3 (R5). Query,
+-- NextStore and Advance are calls that no rule has; Geometry, Reserved, FirstRule, ReadBack and Guarantees state what holds beside demand 3.
 pub mod Layout
 pub mod Geometry
+pub mod Tag
 pub mod Superblock
 pub mod Section
 pub mod Journal
-pub mod Tag
 pub mod Store
+pub mod Refusal
 pub mod State
 pub mod Format
 pub mod Open
 pub mod Query
 pub mod Write
 pub mod Flush
+pub mod StepResult
+pub mod JournalStep
 pub mod Step
+pub mod NextStore
+pub mod Advance
 pub mod Read
+pub mod FirstRule
+pub mod Reserved
+pub mod ReadBack
+pub mod Medium
 pub mod Ledger
 pub mod World
-pub mod Advance
 pub mod Demand3
 pub mod Guarantees
-pub mod ReadBack
-pub mod FirstRule
-pub mod NextStore
-pub mod Reserved

@@ -1,5 +1,5 @@
--- Reserved sectors are never read: document 01, "Volume layout", 1, "r reserved sectors (000: never read or written)". Volumes that agree from sector r
--- on get the same answers and stores. (That no step writes them is StepStores in NextStore.antt.) The proof is in proofs/Reserved.
+-- Reserved sectors are never read: R16. Volumes that agree from sector r on get the same answers and stores. (That no step writes them is StepStores in
+-- NextStore.antt.) The proof is in proofs/Reserved.
 --
 -- AgreeFrom r v w   : the volumes v and w are as long, and agree from sector r on
 -- SameFrom ..       : what each call then gives is the same

@@ -1,11 +1,15 @@
--- What is tested of loans and states: document 01, "Working a volume", its last paragraph, and "Refusal numbers", 1.
+-- What is tested of loans and states: R54, and refusal 1 of R71. Which call is lent what is R53: its first row says so.
 --
 -- Verdict             : what the rules of a call say: none is met (passed), or the refusal of the first that is
+-- lastId              : 2^64 − 1, which no commit may be given
 -- volumeLoanOk v      : whether a volume is whole sectors, and not over the limit
 -- stagingOk g st      : whether a staging loan is as long as a section
 -- sectorOk b          : whether a loan is as long as a sector
+-- placeOk g n id p    : whether the place of the phase p exists, as far as no volume is needed (R55, R56)
 -- stateOk s           : whether the state s is sound, as far as no volume is needed
 -- volumeOk s v        : whether v is a volume that the layout fits, and on which the place of s exists
+-- isFilling p, isRecovering p : which phase it is (R52)
+-- inPhase s p         : s in the phase p
 use Prim.Native.Nat.{ℕ, _-_, _*_, _%_, _^_}
 use mathlib.Core.Bool.{Bool, true, false, not, _&&_}
 use mathlib.Core.List.{List}
@@ -19,20 +23,17 @@ use Rattle.model.specs.declared.Phase.the-variants.{Filling, Committing,
 use Rattle.model.specs.declared.State.{State}
 use Rattle.model.specs.Layout.{mostSectors, entryCount, sectionSize, needed, layoutOk}
 use Rattle.model.specs.Journal.{replay}
-use Rattle.model.specs.Store.{storesOf}
+use Rattle.model.specs.Store.{mostHomeStores, stepsOf}
 
--- The rules of a call are rows of a test and a verdict, in document 01's order, read by `firstMet` of octets.
+-- The rules of a call are rows of a test and a verdict, in order, read by `firstMet` of octets (R69).
 abbrev pub Verdict : Type 0
 Verdict = Answer ℕ (Unit {0})
 
 abbrev pub passed : Verdict
 passed = taken tt
 
--- "2^64 − 1", which no commit may be given
 abbrev pub lastId : ℕ
 lastId = 2 ^ 64 - 1
-
--- ---- loans
 
 abbrev pub volumeLoanOk : List ℕ → Bool
 volumeLoanOk v = eqb (length v % sectorSize) 0 && leb (length v) (mostSectors * sectorSize)
@@ -43,16 +44,12 @@ stagingOk g st = eqb (length st) (sectionSize (g .width) * sectorSize)
 abbrev pub sectorOk : List ℕ → Bool
 sectorOk b = eqb (length b) sectorSize
 
--- ---- states
-
--- "its place exists: a sector below M, an entry below the count ..  Committing needs a count above 0 and an id below 2^64 − 1"; "0 when recovering"
 abbrev pub placeOk : Layout → ℕ → ℕ → Phase → Bool
 placeOk g count id Filling = true
 placeOk g count id (Committing j) = ltb j (sectionSize (g .width)) && (ltb 0 count && ltb id lastId)
-placeOk g count id (WritingBack i h) = ltb i count && ltb h 2
+placeOk g count id (WritingBack i h) = ltb i count && ltb h mostHomeStores
 placeOk g count id (Recovering k) = eqb count 0
 
--- "its parameters are in range ..  its entry count is at most E ..  its id is not 0, and its place exists"
 unfoldable pub stateOk : State → Bool
 stateOk s =
     layoutOk (s .layout)
@@ -60,18 +57,18 @@ stateOk s =
     && (not (eqb (s .id) 0)
     && placeOk (s .layout) (s .count) (s .id) (s .phase)))
 
--- "a store below the journal's present total"
+-- a step below the number that the recovery of v has
 abbrev pub replayOk : Layout → List ℕ → Phase → Bool
 replayOk g v Filling = true
 replayOk g v (Committing j) = true
 replayOk g v (WritingBack i h) = true
-replayOk g v (Recovering k) = ltb k (storesOf g (replay g v))
+replayOk g v (Recovering k) = ltb k (stepsOf g (replay g v))
 
--- "its layout fits the lent volume"
 unfoldable pub volumeOk : State → List ℕ → Bool
 volumeOk s v = volumeLoanOk v && (leb (needed (s .layout) * sectorSize) (length v) && replayOk (s .layout) v (s .phase))
 
--- ---- phases
+abbrev pub inPhase : State → Phase → State
+inPhase s p = record { layout = s .layout; phase = p; count = s .count; id = s .id }
 
 abbrev pub isFilling : Phase → Bool
 isFilling Filling = true

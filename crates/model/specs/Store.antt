@@ -1,23 +1,25 @@
--- Stores: document 01, "Working a volume", Step. A step's effect on the volume is a value: nothing, or one sector with its new content.
+-- Stores. A step's effect on the volume is a value: nothing, or one sector with its new content (R43).
 --
--- Store               : a sector of the volume and what it is to hold
--- made v x            : the volume v with the store x made
--- Effect              : what a call does to the volume: nothing, or one store
+-- Store               : a sector of the volume and what it is to hold; made v x: the volume v with the store x made
+-- Effect              : what a call does to the volume; afterEffect v x: the volume after it
 -- contentOf out x     : what a loan that held out holds when the content of the effect x, if it has one, is put in it
--- homeCount g e       : how many stores bring the entry e home
--- homeStore g v e h   : the store h of them: the data sector, then the tag sector with only that tag replaced
--- Place               : a place of a replay: a store that is to be made
--- plan g xs           : the places of a replay of the entries xs, in order
--- storesOf g xs       : how many there are
+-- homeCount g e       : how many stores bring the entry e home; mostHomeStores: the most
+-- homeStore g v e h   : the store h of them: the data sector, then the tag sector with only that tag replaced (R46)
+-- EntryStore          : such a store of an entry to be replayed
+-- entryStores g xs    : those of the entries xs, in order; storesOf g xs: how many there are
+-- RecoveryStep        : what a step of a recovery does
+-- recoverySteps g xs  : the steps of a recovery that replays the entries xs; stepsOf g xs: how many there are, which open reports (R40)
+-- recoveryStepAt g v k: step k of the recovery of the volume v
 use Prim.Native.Nat.{ℕ, zero, suc}
-use mathlib.Core.List.{List, [], _∷_, _++_}
-use lib.ListN.{length}
+use mathlib.Core.List.{List, [], _∷_, _++_, map}
+use lib.ListN.{length, getD}
 use Rattle.octets.specs.Parts.{patch}
 use Rattle.octets.specs.Sectors.{sectorAt, putSector}
 use Rattle.model.specs.declared.Layout.{Layout}
 use Rattle.model.specs.Layout.{dataAt, tagSector, tagOffset}
-use Rattle.model.specs.Section.{Entry, collect}
-use Rattle.model.specs.Journal.{Replayed}
+use Rattle.model.specs.Section.{Entry}
+use Rattle.octets.specs.Lists.{collect}
+use Rattle.model.specs.Journal.{Replayed, replay}
 
 pub record Store : Type 0 where
   pub at : ℕ
@@ -38,8 +40,10 @@ abbrev pub contentOf : List ℕ → Effect → List ℕ
 contentOf out none = out
 contentOf out (one x) = x .content
 
--- ---- "for each entry in order, its data sector, then the tag sector with only that tag replaced"
+abbrev pub mostHomeStores : ℕ
+mostHomeStores = 2
 
+-- two for every entry; asked of layout and entry, since a longer tag may lie across two sectors
 unfoldable pub homeCount : Layout → Entry → ℕ
 homeCount g e = 2
 
@@ -48,17 +52,36 @@ homeStore g v e zero = record { at = dataAt g (e .sector); content = e .bytes }
 homeStore g v e (suc h) =
     record { at = tagSector g (e .sector); content = patch (sectorAt v (tagSector g (e .sector))) (tagOffset g (e .sector)) (e .tag) }
 
--- ---- the stores of a replay
+-- ---- the stores of the entries to be replayed, and the steps of a recovery: today those stores and nothing else
 
-pub data Place : Type 0 where
-  storeOf : (of : Replayed) (h : ℕ) → Place
+pub data EntryStore : Type 0 where
+  storeOf : (of : Replayed) (h : ℕ) → EntryStore
 
-abbrev pub placesOf : Layout → Replayed → List Place
-placesOf g x = collect (homeCount g (x .entry)) (λ h. storeOf x h ∷ [])
+abbrev pub storesOfEntry : Layout → Replayed → List EntryStore
+storesOfEntry g x = collect (homeCount g (x .entry)) (λ h. storeOf x h ∷ [])
 
-abbrev pub plan : Layout → List Replayed → List Place
-plan g [] = []
-plan g (x ∷ xs) = placesOf g x ++ plan g xs
+abbrev pub entryStores : Layout → List Replayed → List EntryStore
+entryStores g [] = []
+entryStores g (x ∷ xs) = storesOfEntry g x ++ entryStores g xs
 
 abbrev pub storesOf : Layout → List Replayed → ℕ
-storesOf g xs = length (plan g xs)
+storesOf g xs = length (entryStores g xs)
+
+pub data RecoveryStep : Type 0 where
+  storing : EntryStore → RecoveryStep
+
+abbrev pub recoverySteps : Layout → List Replayed → List RecoveryStep
+recoverySteps g xs = map storing (entryStores g xs)
+
+abbrev pub stepsOf : Layout → List Replayed → ℕ
+stepsOf g xs = length (recoverySteps g xs)
+
+-- what stands past the end of these lists: never met in a sound state
+abbrev pub noEntry : Replayed
+noEntry = record { section = 0; index = 0; entry = record { sector = 0; bytes = []; tag = [] } }
+
+abbrev pub noStore : EntryStore
+noStore = storeOf noEntry 0
+
+abbrev pub recoveryStepAt : Layout → List ℕ → ℕ → RecoveryStep
+recoveryStepAt g v k = getD (recoverySteps g (replay g v)) k (storing noStore)

@@ -1,6 +1,6 @@
--- The superblock: document 01, "Volume layout", 2.
+-- The superblock: R17.
 --
--- magic             : the bytes `integrt` and a zero
+-- magic             : the bytes `integrt` and a zero (R93)
 -- superblockOf g    : the 4,096 bytes that format writes for the layout g
 -- superblockAt r v  : the superblock of the volume v behind r reserved sectors
 -- layoutIn r b      : the layout whose numbers the superblock b holds
@@ -19,8 +19,7 @@ use Rattle.model.specs.Layout.{superblockSize, layoutOk}
 abbrev pub magic : List ℕ
 magic = 0x69 ∷ 0x6e ∷ 0x74 ∷ 0x65 ∷ 0x67 ∷ 0x72 ∷ 0x74 ∷ 0 ∷ []
 
--- "the bytes `integrt` and a zero at 0; version 128 at 8 ..; log2 of the run length N at 9; T at 10 (2 bytes); section count S at 12 (4); provided
--- sectors P at 16 (8); flags at 24 (4), zero; log2 sectors per block at 28, zero; the rest zero"
+-- version 128 at 8, log2 N at 9, T at 10, S at 12, P at 16, and zeros from 24 on
 unfoldable pub superblockOf : Layout → List ℕ
 superblockOf g =
     magic ++ (128 ∷ g .shift ∷ (le 2 (g .width) ++ (le 4 (g .sections) ++ (le 8 (g .provided) ++ replicate 4072 0))))

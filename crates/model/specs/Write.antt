@@ -1,6 +1,6 @@
--- Write: document 01, "Working a volume", Write; refusals 1, 9 unless filling, 6, 8.
+-- Write: R41; refusals in the order of R74.
 --
--- writeRows s st n bytes     : the rules of the call, in order
+-- writeRows s st n bytes  : the rules of the call, in order
 -- writeOf tags s st n bytes  : the call: its answer, the state and the staging loan afterwards
 use Prim.Native.Nat.{ℕ, _+_}
 use mathlib.Core.Bool.{Bool, not, _&&_}
@@ -28,7 +28,6 @@ writeRows s st n bytes =
     ∷ []
 
 module _ (tags : Tags) (s : State) (st : List ℕ) (n : ℕ) (bytes : List ℕ) where
-  -- "adds one entry to the batch in staging, also when the sector is already there"
   abbrev pub newEntry : Entry
   newEntry = record { sector = n; bytes = bytes; tag = tags (s .layout .width) n bytes }
 

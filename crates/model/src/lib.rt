@@ -4,7 +4,7 @@
 // these definitions is in the crates above.
 ghost use mathlib.Core.Path.{_≡_};
 ghost use Rattle.model.specs.Refusal.{refusalOf, stepAnswer};
-ghost use Rattle.model.specs.World.{stepAcknowledges, stepSettles};
+ghost use Rattle.model.specs.StepResult.{stepAcknowledges, stepSettles};
 
 // Where everything lies on a volume. Any numbers may be handed in; `layoutOk` of specs/Layout.antt says which are in range.
 pub struct Layout {

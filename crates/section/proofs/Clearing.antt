@@ -12,7 +12,8 @@ use Rattle.octets.specs.Numbers.{le}
 use Rattle.octets.specs.Parts.{part, patch}
 use Rattle.octets.proofs.Parts.{length-patch, take-patch, drop-replicate}
 use Rattle.model.specs.Layout.{entrySize, perSector}
-use Rattle.model.specs.Section.{unused, collect, emptyEntry, emptySector}
+use Rattle.model.specs.Section.{unused, emptyEntry, emptySector}
+use Rattle.octets.specs.Lists.{collect}
 use Rattle.model.proofs.Sections.{length-collect}
 
 -- a patch that starts where the first of two lists ends

@@ -6,22 +6,22 @@ use mathlib.Core.Path.{_≡_, refl, sym, ap, _∙_}
 use native.Mathlib.Decide.{ℕ-discrete, decLe, decLt}
 use native.Mathlib.Numerals.{add-one}
 use native.Mathlib.Omega.{arith}
-use lib.ListN.{length, getD, length-append}
+use lib.ListN.{length, getD, length-append, List·getD-append}
 use lib.Seq.{getD-append-add}
 use borrow.Author.Tests.{eq-eqb, ne-eqb}
 use Rattle.model.specs.Layout.{entryCount}
-use Rattle.model.specs.Section.{Entry, unused, entryOf, collect}
+use Rattle.model.specs.Section.{Entry, unused, entryOf}
+use Rattle.octets.specs.Lists.{collect}
 use Rattle.model.specs.Journal.{Replayed, usedEntry}
-use Rattle.model.specs.Store.{homeCount, Place, storeOf, placesOf, plan}
-use Rattle.model.specs.Step.{noPlace}
+use Rattle.model.specs.Store.{mostHomeStores, homeCount, EntryStore, storeOf, storesOfEntry, entryStores, noStore}
 use Rattle.model.specs.declared.Layout.{Layout}
-use Rattle.model.proofs.Plans.{home-two}
+use Rattle.model.proofs.Plans.{length-stores, get-stores, home-most}
 use Rattle.section.specs.Locations.{Locates, storesBelow, storesIn, storeNumber}
 use Rattle.section.specs.declared.Location.{Location}
 
-pub plan-append : (g : Layout) (a b : List Replayed) → plan g (a ++ b) ≡ plan g a ++ plan g b
-plan-append g [] b = refl
-plan-append g (x ∷ a) b = rw (plan-append g a b) (sym (append-assoc (placesOf g x) (plan g a) (plan g b)))
+pub stores-append : (g : Layout) (a b : List Replayed) → entryStores g (a ++ b) ≡ entryStores g a ++ entryStores g b
+stores-append g [] b = refl
+stores-append g (x ∷ a) b = rw (stores-append g a b) (sym (append-assoc (storesOfEntry g x) (entryStores g a) (entryStores g b)))
 
 module _ (g : Layout) (k : ℕ) (sec : List ℕ) where
   abbrev entry : ℕ → Entry
@@ -30,50 +30,52 @@ module _ (g : Layout) (k : ℕ) (sec : List ℕ) where
   abbrev used : ℕ → List Replayed
   used i = usedEntry k i (entry i)
 
-  abbrev below : ℕ → List Place
+  abbrev below : ℕ → List EntryStore
   below = storesBelow g k sec
 
   abbrev here : ℕ → Replayed
-  here i = record { section = k; place = i; entry = entry i }
+  here i = record { section = k; index = i; entry = entry i }
 
   -- the stores of one entry
-  abbrev both : ℕ → List Place
-  both i = storeOf (here i) 0 ∷ storeOf (here i) 1 ∷ []
+  abbrev home : ℕ → List EntryStore
+  home i = storesOfEntry g (here i)
 
-  below-used : (i : ℕ) → entry i .sector ≢ unused → below (i + 1) ≡ below i ++ both i
+  home-count : (i : ℕ) → length (home i) ≡ homeCount g (entry i)
+  home-count i = length-stores (storeOf (here i)) (homeCount g (entry i))
+
+  below-used : (i : ℕ) → entry i .sector ≢ unused → below (i + 1) ≡ below i ++ home i
   below-used i n =
       let one : used i ≡ here i ∷ [] = rw (ne-eqb (entry i .sector) unused n) in
-      let two : placesOf g (here i) ≡ both i = rw (home-two g (entry i)) in
-      ap below (add-one i) ∙ plan-append g (collect i used) (used i)
-      ∙ ap (λ (x : List Replayed). below i ++ plan g x) one
-      ∙ ap (λ (x : List Place). below i ++ x) (append-nil (placesOf g (here i)) ∙ two)
+      ap below (add-one i) ∙ stores-append g (collect i used) (used i)
+      ∙ ap (λ (x : List Replayed). below i ++ entryStores g x) one
+      ∙ ap (λ (x : List EntryStore). below i ++ x) (append-nil (home i))
 
   below-unused : (i : ℕ) → entry i .sector ≡ unused → below (i + 1) ≡ below i
   below-unused i e =
       let none : used i ≡ [] = rw (eq-eqb (entry i .sector) unused e) in
-      ap below (add-one i) ∙ plan-append g (collect i used) (used i)
-      ∙ ap (λ (x : List Replayed). below i ++ plan g x) none ∙ append-nil (below i)
+      ap below (add-one i) ∙ stores-append g (collect i used) (used i)
+      ∙ ap (λ (x : List Replayed). below i ++ entryStores g x) none ∙ append-nil (below i)
 
-  pub count-used : (i : ℕ) → entry i .sector ≢ unused → length (below (i + 1)) ≡ length (below i) + 2
-  count-used i n = ap length (below-used i n) ∙ length-append (below i) (both i)
+  pub count-used : (i : ℕ) → entry i .sector ≢ unused → length (below (i + 1)) ≡ length (below i) + homeCount g (entry i)
+  count-used i n = ap length (below-used i n) ∙ length-append (below i) (home i) ∙ ap (λ (c : ℕ). length (below i) + c) (home-count i)
 
   pub count-unused : (i : ℕ) → entry i .sector ≡ unused → length (below (i + 1)) ≡ length (below i)
   count-unused i e = ap length (below-unused i e)
 
-  pub below-high : (n : ℕ) → length (below n) ≤ 2 * n
+  pub below-high : (n : ℕ) → length (below n) ≤ mostHomeStores * n
   below-high zero = omega arith
   below-high (suc n) = go (below-high n) (ℕ-discrete (entry n .sector) unused)
     where
       one-more : length (below (suc n)) ≡ length (below (n + 1))
       one-more = ap (λ (i : ℕ). length (below i)) (sym (add-one n))
 
-      go : length (below n) ≤ 2 * n → Dec (entry n .sector ≡ unused) → length (below (suc n)) ≤ 2 * suc n
+      go : length (below n) ≤ mostHomeStores * n → Dec (entry n .sector ≡ unused) → length (below (suc n)) ≤ mostHomeStores * suc n
       go ih (yes e) = omega (arith, one-more, count-unused n e)
-      go ih (no e) = omega (arith, one-more, count-used n e)
+      go ih (no e) = omega (arith, one-more, count-used n e, home-most g (entry n))
 
   -- the stores of fewer entries come first
-  data Begins (a b : List Place) : Type 0 where
-    begins : (rest : List Place) → b ≡ a ++ rest → Begins a b
+  data Begins (a b : List EntryStore) : Type 0 where
+    begins : (rest : List EntryStore) → b ≡ a ++ rest → Begins a b
 
   below-begins : (i n : ℕ) → i ≤ n → Begins (below i) (below n)
   below-begins i zero l = begins [] (ap below {x = 0} {y = i} (omega arith) ∙ sym (append-nil (below i)))
@@ -81,33 +83,29 @@ module _ (g : Layout) (k : ℕ) (sec : List ℕ) where
     where
       longer : Begins (below i) (below n) → Begins (below i) (below (suc n))
       longer (begins rest e) =
-          begins (rest ++ plan g (used n))
-          (plan-append g (collect n used) (used n) ∙ ap (λ (x : List Place). x ++ plan g (used n)) e ∙ append-assoc (below i) rest (plan g (used n)))
+          begins (rest ++ entryStores g (used n))
+          (stores-append g (collect n used) (used n) ∙ ap (λ (x : List EntryStore). x ++ entryStores g (used n)) e ∙ append-assoc (below i) rest (entryStores g (used n)))
 
       go : (i ≤ n → Begins (below i) (below n)) → Dec (i ≤ n) → Begins (below i) (below (suc n))
       go ih (yes q) = longer (ih q)
       go ih (no q) = begins [] (ap below {x = suc n} {y = i} (omega arith) ∙ sym (append-nil (below i)))
 
-  store-at : (i n h m : ℕ) → i < n → h < 2 → entry i .sector ≢ unused → h + length (below i) ≡ m
-      → storeOf (here i) h ≡ getD (below n) m noPlace
+  store-at : (i n h m : ℕ) → i < n → h < homeCount g (entry i) → entry i .sector ≢ unused → h + length (below i) ≡ m
+      → storeOf (here i) h ≡ getD (below n) m noStore
   store-at i n h m l s u e = go (below-begins (i + 1) n (omega arith))
     where
-      one-of : (h : ℕ) → h < 2 → (rest : List Place) → getD (both i ++ rest) h noPlace ≡ storeOf (here i) h
-      one-of zero s rest = refl
-      one-of (suc zero) s rest = refl
-      one-of (suc (suc h)) s rest = absurd (omega arith)
+      one-of : (rest : List EntryStore) → getD (home i ++ rest) h noStore ≡ storeOf (here i) h
+      one-of rest =
+          List·getD-append (home i) rest noStore h (omega (arith, home-count i)) ∙ get-stores (storeOf (here i)) (homeCount g (entry i)) h s
 
-      go : Begins (below (i + 1)) (below n) → storeOf (here i) h ≡ getD (below n) m noPlace
+      go : Begins (below (i + 1)) (below n) → storeOf (here i) h ≡ getD (below n) m noStore
       go (begins rest q) =
-          let all : below n ≡ below i ++ (both i ++ rest) =
-          q ∙ ap (λ (x : List Place). x ++ rest) (below-used i u) ∙ append-assoc (below i) (both i) rest in
+          let all : below n ≡ below i ++ (home i ++ rest) =
+          q ∙ ap (λ (x : List EntryStore). x ++ rest) (below-used i u) ∙ append-assoc (below i) (home i) rest in
           let at : length (below i) + h ≡ m = omega arith in
-          sym (ap (λ (x : List Place). getD x m noPlace) all
-          ∙ ap (λ (x : ℕ). getD (below i ++ (both i ++ rest)) x noPlace) (sym at)
-          ∙ getD-append-add (below i) (both i ++ rest) h noPlace ∙ one-of h s rest)
-
-  store-low : (i h : ℕ) → h < 2 → h < homeCount g (entry i)
-  store-low i h l = rw (home-two g (entry i)) l
+          sym (ap (λ (x : List EntryStore). getD x m noStore) all
+          ∙ ap (λ (x : ℕ). getD (below i ++ (home i ++ rest)) x noStore) (sym at)
+          ∙ getD-append-add (below i) (home i ++ rest) h noStore ∙ one-of rest)
 
   below-length : (i n : ℕ) → i ≤ n → length (below i) ≤ length (below n)
   below-length i n l = go (below-begins i n l)
@@ -117,13 +115,14 @@ module _ (g : Layout) (k : ℕ) (sec : List ℕ) where
 
 -- ---- by the entry and its store
 
-module _ (g : Layout) (sec : List ℕ) (x : Location) (l : x .entry < entryCount (g .width)) (u : entryOf (g .width) sec (x .entry) .sector ≢ unused) (s : x .store < 2) where
-  pub locates : Locates g sec x (getD (storesIn g (x .section) sec) (storeNumber g sec x) noPlace)
+module _ (g : Layout) (sec : List ℕ) (x : Location) (l : x .entry < entryCount (g .width)) (u : entryOf (g .width) sec (x .entry) .sector ≢ unused)
+    (s : x .store < homeCount g (entryOf (g .width) sec (x .entry))) where
+  pub locates : Locates g sec x (getD (storesIn g (x .section) sec) (storeNumber g sec x) noStore)
   locates = record {
-    place = store-at g (x .section) sec (x .entry) (entryCount (g .width)) (x .store) (storeNumber g sec x) l s u (omega arith);
+    names = store-at g (x .section) sec (x .entry) (entryCount (g .width)) (x .store) (storeNumber g sec x) l s u (omega arith);
     entry = l;
     used = u;
-    store = store-low g (x .section) sec (x .entry) (x .store) s;
+    store = s;
   }
 
   pub number-low : storeNumber g sec x < length (storesIn g (x .section) sec)
@@ -134,7 +133,7 @@ module _ (g : Layout) (sec : List ℕ) (x : Location) (l : x .entry < entryCount
 module _ (g : Layout) (k : ℕ) (sec : List ℕ) where
   -- the store of number m is one of an entry below n
   pub data Numbered (n m : ℕ) : Type 0 where
-    numbered : (i h : ℕ) → i < n → h < 2 → entryOf (g .width) sec i .sector ≢ unused → length (storesBelow g k sec i) + h ≡ m → Numbered n m
+    numbered : (i h : ℕ) → i < n → h < homeCount g (entryOf (g .width) sec i) → entryOf (g .width) sec i .sector ≢ unused → length (storesBelow g k sec i) + h ≡ m → Numbered n m
 
   number-more : (n m : ℕ) → (m < length (storesBelow g k sec n) → Numbered n m) → m < length (storesBelow g k sec (n + 1)) → Numbered (suc n) m
   number-more n m ih l = go (decLt m (length (storesBelow g k sec n))) (ℕ-discrete (entryOf (g .width) sec n .sector) unused)

@@ -36,9 +36,6 @@ const LAST_AT: usize = 8;
 
 const TAG_AT: usize = 16;
 
-// The stores that bring an entry home: its data sector, then the sector with its tag.
-pub const HOME_STORES: usize = 2;
-
 // ---- commit ids
 
 // The commit id that sector j carries.
@@ -165,8 +162,9 @@ pub fn stores_in(g: Layout, section: &[u8]) -> usize
     let mut stores = 0;
     let mut i = 0;
     while i < count {
-        if entry_sector(section, g.width, i) != UNUSED {
-            stores += HOME_STORES;
+        let sector = entry_sector(section, g.width, i);
+        if sector != UNUSED {
+            stores += layout::home_stores(g, sector);
         }
         i += 1;
     }
@@ -183,15 +181,17 @@ pub fn location_in(g: Layout, section: &[u8], from: Location) -> Location
     let mut left = from.store;
     let mut i = from.entry;
     while i < count {
-        if entry_sector(section, g.width, i) != UNUSED {
-            if left < HOME_STORES {
+        let sector = entry_sector(section, g.width, i);
+        if sector != UNUSED {
+            let home = layout::home_stores(g, sector);
+            if left < home {
                 return Location {
                     section: from.section,
                     entry: i,
                     store: left,
                 };
             }
-            left -= HOME_STORES;
+            left -= home;
         }
         i += 1;
     }

@@ -11,7 +11,7 @@ ghost use lib.Dec.{leb};
 ghost use lib.ListN.{length};
 ghost use Rattle.model.specs.Layout.{needed, layoutOk};
 ghost use Rattle.model.specs.Journal.{replay};
-ghost use Rattle.model.specs.Store.{storesOf};
+ghost use Rattle.model.specs.Store.{stepsOf};
 ghost use Rattle.model.specs.State.{placeOk, stateOk, stagingOk, volumeLoanOk, volumeOk, isFilling, isRecovering};
 
 // No commit may be given this id.
@@ -26,7 +26,7 @@ fn place_ok(g: Layout, count: usize, id: u64, p: Phase) -> bool
     match p {
         Phase::Filling => true,
         Phase::Committing(j) => (j < size) & ((0 < count) & (id < LAST_ID)),
-        Phase::WritingBack(i, h) => (i < count) & (h < 2),
+        Phase::WritingBack(i, h) => (i < count) & (h < layout::MOST_HOME_STORES),
         Phase::Recovering(_) => count == 0,
     }
 }
@@ -98,16 +98,16 @@ pub fn volume_ok(s: State, v: &[u8]) -> bool
         Phase::Filling => true,
         Phase::Committing(_) => true,
         Phase::WritingBack(_, _) => true,
-        Phase::Recovering(k) => k < replay_stores(v, g),
+        Phase::Recovering(k) => k < recovery_steps(v, g),
     }
 }
 
-// How many stores a replay of the volume's journal makes.
-fn replay_stores(v: &[u8], g: Layout) -> usize
+// How many steps a recovery of the volume takes.
+fn recovery_steps(v: &[u8], g: Layout) -> usize
     requires { ⌜ (layoutOk g ≡ true) × (needed g * 512 ≤ length (now v)) ⌝ }
-    ensures { λ r. ⌜ r ≡ storesOf g (replay g (now (v .entry))) ⌝ }
+    ensures { λ r. ⌜ r ≡ stepsOf g (replay g (now (v .entry))) ⌝ }
 {
     let mut ids = [0u64; MOST_SECTIONS];
     journal::journal::scan(v, g, &mut ids);
-    journal::journal::count_stores(&ids, v, g)
+    journal::journal::count_steps(&ids, v, g)
 }

@@ -15,8 +15,9 @@ use Rattle.model.specs.declared.State.{State}
 use Rattle.model.specs.State.{Verdict, passed}
 use Rattle.model.specs.Layout.{sectionSize}
 use Rattle.model.specs.Section.{Entry}
-use Rattle.model.specs.Store.{afterEffect, Place, storeOf}
-use Rattle.model.specs.Step.{placeAt, stepRows, commitStep, homeStep, recoverPlace, phaseStep, stepBy, stepOf}
+use Rattle.model.specs.Store.{afterEffect, EntryStore, storeOf, recoveryStepAt}
+use Rattle.model.specs.Step.{stepRows, phaseStep, stepBy, stepOf}
+use Rattle.model.specs.JournalStep.{commitStep, homeStep, recoverBy}
 use Rattle.model.proofs.Replays.{Which, isTrue, isFalse, which}
 use Rattle.volume_state.specs.VolumeState.{encodeOf, decodeOf, encodesState}
 use Rattle.buffers.specs.Done.{done}
@@ -40,7 +41,7 @@ module _ (d : State) (v st : List ℕ) where
   brings-home e h true p left = refl
   brings-home e h false p left = refl
 
-  recovers : (k : ℕ) (x : Place) → stepReply (recoverPlace d v st k x .answer) 0 0 .number ≡ done
+  recovers : (k : ℕ) (x : EntryStore) → stepReply (recoverBy d v st k x .answer) 0 0 .number ≡ done
   recovers k (storeOf x h) = brings-home (x .entry) h _ _ _
 
   -- a step that passes its tests is made
@@ -48,7 +49,7 @@ module _ (d : State) (v st : List ℕ) where
   steps Filling = refl
   steps (Committing j) = commits j
   steps (WritingBack i h) = brings-home _ h _ _ _
-  steps (Recovering k) = recovers k (placeAt (d .layout) v k)
+  steps (Recovering k) = recovers k (recoveryStepAt (d .layout) v k)
 
   step-by : (x : Verdict) → stepReply (stepBy d v st x .answer) 0 0 .number ≢ done
       → (encodeOf (stepBy d v st x .state) ≡ encodeOf d) × (afterEffect v (stepBy d v st x .effect) ≡ v) × (stepBy d v st x .staging ≡ st)

@@ -18,7 +18,8 @@ use Rattle.octets.specs.Numbers.{Bytes}
 use Rattle.octets.specs.Answer.{refusal}
 use Rattle.octets.specs.Choice.{pick, firstMet}
 use Rattle.model.specs.Store.{afterEffect, contentOf}
-use Rattle.model.specs.Step.{StepResult, stepOf}
+use Rattle.model.specs.Step.{stepOf}
+use Rattle.model.specs.StepResult.{StepResult}
 use Rattle.model.specs.NextStore.{nextStoreOf}
 use Rattle.model.specs.Advance.{AdvanceResult, advanceOf}
 use Rattle.replies.specs.declared.Reply.{Reply}

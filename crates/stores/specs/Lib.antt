@@ -1,2 +1,3 @@
--- What the code hands back, beside the model's stores.
+-- What the code asks and hands back, beside the model's stores.
+pub mod Asked
 pub mod Changes

@@ -2,14 +2,14 @@
 // crates of this repository, as the stores themselves.
 use layout::SECTOR_SIZE;
 use model::Layout;
-ghost use mathlib.Core.Bool.{true};
 ghost use mathlib.Core.List.{List};
 ghost use mathlib.Core.Path.{_≡_};
-ghost use Prim.Native.Nat.{ℕ, _*_, _≤_, _<_};
+ghost use Prim.Native.Nat.{ℕ, _*_, _≤_};
 ghost use lib.ListN.{length};
-ghost use Rattle.model.specs.Layout.{entryCount, sectionSize, needed, layoutOk};
+ghost use Rattle.model.specs.Layout.{needed};
 ghost use Rattle.model.specs.Section.{entryOf};
 ghost use Rattle.model.specs.Store.{homeStore};
+ghost use Rattle.stores.specs.Asked.{StoreOfEntry};
 ghost use Rattle.stores.specs.Changes.{Changes};
 
 // So many bytes of the volume, from its byte `byte` on. They lie in one sector.
@@ -28,7 +28,7 @@ pub fn home_part(
     h: usize,
     out: &mut [u8],
 ) -> Part
-    requires { ⌜ (layoutOk g ≡ true) × (length (now section) ≡ sectionSize (g .width) * 512) × (i < entryCount (g .width)) × (sector ≡ entryOf (g .width) (now section) i .sector) × (sector < g .provided) × (h < 2) × (length (now out) ≡ 512) ⌝ }
+    requires { ⌜ StoreOfEntry g (now section) i sector h × (length (now out) ≡ 512) ⌝ }
     ensures { λ r. ⌜ ((v : List ℕ) → needed g * 512 ≤ length v → Changes v (homeStore g v (entryOf (g .width) (now (section .entry)) i) h) r (now (out .exit))) ⌝ }
 {
     if h == 0 {

@@ -17,14 +17,15 @@ ghost use Prim.Native.Nat.{ℕ, _*_, _≤_, _<_};
 ghost use lib.ListN.{length};
 ghost use Rattle.octets.specs.Parts.{patch};
 ghost use Rattle.octets.specs.Sectors.{sectorAt};
-ghost use Rattle.model.specs.Layout.{entryCount, sectionSize, tagSector, tagOffset, needed, layoutOk};
+ghost use Rattle.model.specs.Layout.{tagSector, tagOffset, needed, layoutOk};
 ghost use Rattle.model.specs.Section.{entryOf};
 ghost use Rattle.model.specs.Store.{homeStore};
-ghost use Rattle.model.specs.Step.{commitStore};
+ghost use Rattle.model.specs.JournalStep.{commitStore};
+ghost use Rattle.stores.specs.Asked.{SectorOfCommit, StoreOfEntry};
 
 // Sector j of the section that a batch is committed to: staging's, with the id put in.
 pub fn commit_store(s: State, st: &[u8], j: usize, out: &mut [u8]) -> usize
-    requires { ⌜ (layoutOk (s .layout) ≡ true) × (length (now st) ≡ sectionSize (s .layout .width) * 512) × (j < sectionSize (s .layout .width)) × (0 < s .id) × (length (now out) ≡ 512) ⌝ }
+    requires { ⌜ SectorOfCommit s (now st) j × (length (now out) ≡ 512) ⌝ }
     ensures { λ r. ⌜ ((v : List ℕ) → record { at = r; content = now (out .exit) } ≡ commitStore s v (now (st .entry)) j) ⌝ }
 {
     let g = s.layout;
@@ -55,7 +56,7 @@ pub fn home_store(
     h: usize,
     out: &mut [u8],
 ) -> usize
-    requires { ⌜ (layoutOk g ≡ true) × (needed g * 512 ≤ length (now v)) × (length (now section) ≡ sectionSize (g .width) * 512) × (i < entryCount (g .width)) × (sector ≡ entryOf (g .width) (now section) i .sector) × (sector < g .provided) × (h < 2) × (length (now out) ≡ 512) ⌝ }
+    requires { ⌜ StoreOfEntry g (now section) i sector h × (needed g * 512 ≤ length (now v)) × (length (now out) ≡ 512) ⌝ }
     ensures { λ r. ⌜ record { at = r; content = now (out .exit) } ≡ homeStore g (now (v .entry)) (entryOf (g .width) (now (section .entry)) i) h ⌝ }
 {
     if h == 0 {

@@ -22,24 +22,24 @@ use Rattle.model.specs.Refusal.{stepAnswer}
 use Rattle.model.specs.Layout.{mostSectors, entryCount, sectionSize, sectionAt, needed, layoutOk}
 use Rattle.model.specs.Section.{Entry, entryOf}
 use Rattle.model.specs.Journal.{sectionOf, replay}
-use Rattle.model.specs.Store.{made, homeStore, storesOf}
+use Rattle.model.specs.Store.{made, homeCount, homeStore, stepsOf}
 use Rattle.model.specs.Tag.{tagOf}
-use Rattle.model.specs.State.{placeOk, volumeLoanOk, stateOk, volumeOk, stagingOk}
-use Rattle.model.specs.Flush.{inPhase}
-use Rattle.model.specs.Step.{placeAt, stepOf}
-use Rattle.model.specs.World.{stepAcknowledges}
+use Rattle.model.specs.State.{placeOk, volumeLoanOk, stateOk, volumeOk, stagingOk, inPhase}
+use Rattle.model.specs.Step.{stepOf}
+use Rattle.model.specs.StepResult.{stepAcknowledges}
 use Rattle.model.specs.Advance.{AdvanceResult, storesIn, oneMore, advanceFrom}
 use Rattle.model.proofs.Addresses.{ranged}
 use Rattle.model.proofs.Advances.{all-same, advance-more}
 use Rattle.model.proofs.Sections.{bytes-length, tag-length}
 use Rattle.model.proofs.Homes.{home-length, home-sections}
-use Rattle.model.proofs.Plans.{home-two}
 use Rattle.section.specs.declared.Location.{Location}
 use Rattle.section.specs.Locations.{Locates}
-use Rattle.journal.specs.Replay.{idsOf, locationAt}
-use Rattle.journal.proofs.Walks.{located, located-low, is-there, replay-high, ids-kept, location-kept}
+use Rattle.journal.specs.Replay.{idsOf, entryStoreAt, locationAt}
+use Rattle.journal.proofs.Walks.{located-low, ids-kept, location-kept}
+use Rattle.journal.proofs.Recovery.{step-located, step-there, steps-high}
 use Rattle.layout.proofs.Sizes.{width-high, section-inside}
 use Rattle.stores.specs.declared.changes.Part.{Part}
+use Rattle.stores.specs.Asked.{StoreOfEntry}
 use Rattle.stores.specs.Changes.{Changes}
 use Rattle.volume_step.specs.Results.{Leaves, recovered}
 use Rattle.volume.specs.Results.{advanced, stepAdded}
@@ -103,7 +103,8 @@ module _ (last next : Advanced) (x : Stepped) (e : next ≡ stepAdded last x) (v
 -- ---- a store of a recovery
 
 -- the store that x names leaves the volume's length and its sections as they were
-module _ (g : Layout) (ok : layoutOk g ≡ true) (v : List ℕ) (room : needed g * 512 ≤ length v) (x : Location) (l : x .section < g .sections) (h : x .entry < entryCount (g .width)) (half : x .store < 2) where
+module _ (g : Layout) (ok : layoutOk g ≡ true) (v : List ℕ) (room : needed g * 512 ≤ length v) (x : Location) (l : x .section < g .sections) (h : x .entry < entryCount (g .width))
+    (half : x .store < homeCount g (entryOf (g .width) (sectionOf g v (x .section)) (x .entry))) where
   abbrev entry : Entry
   entry = entryOf (g .width) (sectionOf g v (x .section)) (x .entry)
 
@@ -232,14 +233,16 @@ module _ {b : Advanced} {v₀ : List ℕ} {k : ℕ} {ids : List ℕ} {i at : ℕ
     pub continues : (layoutOk g ≡ true) × (needed g * 512 ≤ length v) × (ids ≡ idsOf g v) × (x .section < g .sections) × ((n : ℕ) × (x ≡ locationAt g v n))
     continues = (ok, ok-here .1, u .scan, l, (k + i, u .next))
 
-    pub there : (k + i < storesOf g (replay g v)) × Locates g (sectionOf g v (x .section)) x (placeAt g v (k + i))
-    there = located g v ok (k + i) x (u .next) l
+    pub there : (k + i < stepsOf g (replay g v)) × Locates g (sectionOf g v (x .section)) x (entryStoreAt g v (k + i))
+    there = step-located g v ok (k + i) x (u .next) l
 
     pub low : k + i < 31744
-    low = omega (arith, there .0, replay-high g v ok)
+    low = omega (arith, there .0, steps-high g v ok)
 
-    pub half : x .store < 2
-    half = omega (arith, there .1 .store, home-two g at-hand)
+    -- what replayed_part asks for
+    pub entry-here : (sector : ℕ) → sector ≡ at-hand .sector → sector < g .provided → StoreOfEntry g (sectionOf g v (x .section)) (x .entry) sector (x .store)
+    entry-here sector es below =
+        record { layout = ok; long = section-length g ok v (ok-here .1) x l (there .1 .entry) (there .1 .store); entry = there .1 .entry; is = es; low = below; store = there .1 .store }
 
     sound-here : stateOk here ≡ true
     sound-here = state-recovering (b .state) (u .sound) k (k + i) (u .phase)
@@ -260,17 +263,17 @@ module _ {b : Advanced} {v₀ : List ℕ} {k : ℕ} {ids : List ℕ} {i at : ℕ
         home = (changes .sector, put ∙ changes .stored)
 
         sized-same : length v ≡ length v′
-        sized-same = length-same g ok v (ok-here .1) x l (there .1 .entry) half below-here v′ (home .1)
+        sized-same = length-same g ok v (ok-here .1) x l (there .1 .entry) (there .1 .store) below-here v′ (home .1)
 
         same : (j : ℕ) → j < g .sections → sectionOf g v j ≡ sectionOf g v′ j
-        same = sections-same g ok v (ok-here .1) x l (there .1 .entry) half below-here v′ (home .1)
+        same = sections-same g ok v (ok-here .1) x l (there .1 .entry) (there .1 .store) below-here v′ (home .1)
 
         module _ (y : Location) (ey : (n : ℕ) → x ≡ locationAt g v n → y ≡ locationAt g v (n + 1)) where
           next-is : y ≡ locationAt g v′ (k + suc i)
           next-is = ey (k + i) (u .next) ∙ location-kept g v v′ same (k + i + 1) ∙ ap (locationAt g v′) {x = k + i + 1} {y = k + suc i} (omega arith)
 
-          more-is : ltb (y .section) (g .sections) ≡ ltb (k + i + 1) (storesOf g (replay g v))
-          more-is = is-there g v ok (k + i + 1) y (ey (k + i) (u .next))
+          more-is : ltb (y .section) (g .sections) ≡ ltb (k + i + 1) (stepsOf g (replay g v))
+          more-is = step-there g v ok (k + i + 1) y (ey (k + i) (u .next))
 
           makes : (st : List ℕ) → stagingOk g st ≡ true → Leaves v (stepOf here v st) (recovered (b .state) at′ (k + suc i) (ltb (y .section) (g .sections))) v′ st
           makes st q =

@@ -2,15 +2,23 @@
 --
 -- advanced r v st : advance's, with the volume and the staging loan afterwards
 -- stepAdded a x   : what advance hands back of the steps that a tells of and the step x more
-use Prim.Native.Nat.{ℕ, _+_}
-use mathlib.Core.Bool.{true}
+-- Scanned a k v i : no step was made yet, a has a sound state that is recovering at step k, and i is the table of the journal of v, which its layout fits
+use Prim.Native.Nat.{ℕ, _+_, _*_}
+use mathlib.Core.Bool.{true, _&&_}
 use mathlib.Core.List.{List}
+use mathlib.Core.Path.{_≡_}
+use lib.Dec.{leb}
+use lib.ListN.{length}
 use Rattle.octets.specs.Choice.{pick}
+use Rattle.model.specs.Layout.{needed}
+use Rattle.model.specs.State.{stateOk, volumeLoanOk}
 use Rattle.model.specs.Refusal.{stepAnswer}
-use Rattle.model.specs.World.{stepAcknowledges}
+use Rattle.model.specs.StepResult.{stepAcknowledges}
 use Rattle.model.specs.Advance.{AdvanceResult, storesIn}
 use Rattle.model.specs.declared.Advanced.{Advanced}
+use Rattle.model.specs.declared.Phase.the-variants.{Recovering}
 use Rattle.model.specs.declared.Stepped.{Stepped}
+use Rattle.journal.specs.Replay.{idsOf}
 
 abbrev pub advanced : Advanced → List ℕ → List ℕ → AdvanceResult
 advanced r v st = record { answer = stepAnswer (r .answer); stores = r .stores; acknowledged = r .acknowledged; state = r .state; volume = v; staging = st }
@@ -23,3 +31,11 @@ stepAdded a x =
       acknowledged = pick (stepAcknowledges (stepAnswer (x .answer))) true (a .acknowledged);
       state = x .state;
     }
+
+abbrev pub Scanned : Advanced → ℕ → List ℕ → List ℕ → Type 0
+Scanned a k v ids =
+    (a .stores ≡ 0)
+    × (stateOk (a .state) ≡ true)
+    × (volumeLoanOk v && leb (needed (a .state .layout) * 512) (length v) ≡ true)
+    × (a .state .phase ≡ Recovering k)
+    × (ids ≡ idsOf (a .state .layout) v)

@@ -18,14 +18,11 @@ ghost use mathlib.Core.Bool.{true, false, _&&_};
 ghost use mathlib.Core.List.{List};
 ghost use mathlib.Core.Path.{_≡_};
 ghost use Prim.Native.Nat.{ℕ, _+_, _-_, _*_, _^_, _≤_, _<_};
-ghost use lib.Dec.{leb};
 ghost use lib.ListN.{length};
-ghost use Rattle.model.specs.Layout.{needed};
 ghost use Rattle.model.specs.State.{volumeLoanOk, stateOk, stagingOk};
 ghost use Rattle.model.specs.Refusal.{stepAnswer};
 ghost use Rattle.model.specs.Advance.{storesIn, advanceFrom, advanceOf};
-ghost use Rattle.journal.specs.Replay.{idsOf};
-ghost use Rattle.volume.specs.Results.{advanced, stepAdded};
+ghost use Rattle.volume.specs.Results.{advanced, stepAdded, Scanned};
 
 // Nothing was done, and nothing is said.
 fn no_step(s: State) -> Advanced
@@ -119,7 +116,7 @@ fn replay_from(
     n: usize,
     content: &mut [u8; SECTOR_SIZE],
 ) -> Advanced
-    requires { ⌜ (before .stores ≡ 0) × (stateOk (before .state) ≡ true) × (volumeLoanOk (now v) && leb (needed (before .state .layout) * 512) (length (now v)) ≡ true) × (before .state .phase ≡ Phase.Recovering k) × (now ids ≡ idsOf (before .state .layout) (now v)) ⌝ }
+    requires { ⌜ Scanned before k (now v) (now ids) ⌝ }
     ensures { λ r. ⌜ ((st : List ℕ) → stagingOk (before .state .layout) st ≡ true → advanced r (now (v .exit)) st ≡ advanceFrom (r .stores) (advanced before (now (v .entry)) st)) × (r .stores ≤ n) ⌝ }
 {
     let s = before.state;

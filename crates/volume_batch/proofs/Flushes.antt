@@ -9,8 +9,8 @@ use Rattle.octets.specs.Answer.{taken, refuse}
 use Rattle.model.specs.declared.Flushed.{Flushed}
 use Rattle.model.specs.declared.Phase.the-variants.{Committing}
 use Rattle.model.specs.declared.State.{State}
-use Rattle.model.specs.State.{lastId, stateOk, isFilling}
-use Rattle.model.specs.Flush.{inPhase, flushBy, flushOf}
+use Rattle.model.specs.State.{lastId, stateOk, isFilling, inPhase}
+use Rattle.model.specs.Flush.{flushBy, flushOf}
 use Rattle.volume_batch.specs.Results.{flushed}
 
 module _ (s : State) where

@@ -24,19 +24,21 @@ use Rattle.model.specs.Layout.{entryCount, sectionSize, dataAt, needed, layoutO
 use Rattle.model.specs.Section.{emptySection}
 use Rattle.model.specs.Journal.{greatestId, sectionOf, Replayed, replay}
 use Rattle.model.specs.Superblock.{superblockAt, layoutIn}
-use Rattle.model.specs.Store.{made, homeCount, homeStore, Place, storeOf, plan, storesOf}
+use Rattle.model.specs.Store.{made, homeCount, homeStore, storeOf, storesOf, RecoveryStep, storing, recoverySteps, stepsOf, noStore, recoveryStepAt}
 use Rattle.model.specs.Tag.{Tag, Tags, tagOf, tagAt}
 use Rattle.model.specs.State.{Verdict, passed, placeOk, replayOk, volumeLoanOk, stateOk, volumeOk, stagingOk, isFilling}
 use Rattle.model.specs.Open.{openRows, entriesVerdict, phaseFor, openedState, OpenResult, openBy, openWith, openOf}
-use Rattle.model.specs.Step.{noPlace, placeAt, placeRow, StepResult, homeStep, recoverPlace, stepBy, stepOf}
+use Rattle.model.specs.Step.{recoveryRow, stepBy, stepOf}
+use Rattle.model.specs.JournalStep.{homeStep, recoverBy}
+use Rattle.model.specs.StepResult.{StepResult}
 use Rattle.model.specs.Read.{ReadResult, readBy, readOf}
 use Rattle.model.specs.Advance.{AdvanceResult, noStep, stepMade, oneMore, advanceFrom, advanceOf}
 use Rattle.model.proofs.Addresses.{Ranged, ranged}
 use Rattle.model.proofs.Homes.{home-length, home-sections}
 use Rattle.model.proofs.Invariant.{stateAt}
 use Rattle.model.proofs.Journals.{Every, replay-kept}
-use Rattle.model.proofs.Plans.{home-two}
-use Rattle.model.proofs.Entries.{Complete, replay-complete, PlaceOf, place-every}
+use Rattle.model.proofs.Plans.{steps-stores}
+use Rattle.model.proofs.Entries.{Complete, replay-complete, StepFor, step-every}
 use Rattle.model.proofs.Sections.{per-pos, length-empty}
 use Rattle.layout.proofs.Sizes.{width-high}
 use Rattle.volume_open.proofs.Queries.{valid-layout}
@@ -58,21 +60,11 @@ entries-sound tag g (x ∷ xs) p e =
     go (entries-sound tag g xs (p .1)) (leb (g .provided) (x .entry .sector)) refl (not (same (x .entry .tag) (tag (x .entry .sector) (x .entry .bytes)))) e
   where
     go : (entriesVerdict tag g xs ≡ passed → Every (Sound g) xs) → (high : Bool) → leb (g .provided) (x .entry .sector) ≡ high → (wrong : Bool)
-        → pick high (refuse 6 (x .section ∷ x .place ∷ [])) (pick wrong (refuse 7 (x .section ∷ x .place ∷ [])) (entriesVerdict tag g xs)) ≡ passed
+        → pick high (refuse 6 (x .section ∷ x .index ∷ [])) (pick wrong (refuse 7 (x .section ∷ x .index ∷ [])) (entriesVerdict tag g xs)) ≡ passed
         → Every (Sound g) (x ∷ xs)
     go ih true l w e = absurd (refused-not-taken _ tt e)
     go ih false l true e = absurd (refused-not-taken _ tt e)
     go ih false l false e = (record { low = leb-false (g .provided) (x .entry .sector) l; complete = p .0 }, ih e)
-
--- a place of the replay is the first or the second store of a sound entry
-abbrev SoundPlace : Layout → Place → Type 0
-SoundPlace g (storeOf x h) = Sound g x × (h < 2)
-
-place-sound : (g : Layout) (xs : List Replayed) → Every (Sound g) xs → (k : ℕ) → k < storesOf g xs → SoundPlace g (getD (plan g xs) k noPlace)
-place-sound g xs p k l = go (getD (plan g xs) k noPlace) (place-every g (Sound g) xs p k l)
-  where
-    go : (q : Place) → PlaceOf g (Sound g) q → SoundPlace g q
-    go (storeOf x h) s = (s .0, omega (arith, s .1, home-two g (x .entry)))
 
 -- two stores to an entry
 stores-twice : (g : Layout) (xs : List Replayed) → storesOf g xs ≡ 2 * length xs
@@ -80,12 +72,15 @@ unfolding homeCount
 stores-twice g [] = refl
 stores-twice g (x ∷ xs) = omega (arith, stores-twice g xs)
 
+steps-twice : (g : Layout) (xs : List Replayed) → stepsOf g xs ≡ 2 * length xs
+steps-twice g xs = steps-stores g xs ∙ stores-twice g xs
+
 -- ---- the steps of a recovery
 
 module _ (g : Layout) (ok : layoutOk g ≡ true) (v₀ : List ℕ) (loan : volumeLoanOk v₀ ≡ true) (room : needed g * 512 ≤ length v₀)
     (entries : Every (Sound g) (replay g v₀)) where
   abbrev total : ℕ
-  total = storesOf g (replay g v₀)
+  total = stepsOf g (replay g v₀)
 
   abbrev empty : List ℕ
   empty = emptySection (g .width)
@@ -120,8 +115,8 @@ module _ (g : Layout) (ok : layoutOk g ≡ true) (v₀ : List ℕ) (loan : volum
   unfolding stagingOk
   staging-ok = eq-eqb (length empty) (sectionSize (g .width) * 512) (length-empty (g .width) (per-pos (g .width) (omega (arith, width-high g ok))))
 
-  row-passes : (p : Place) → SoundPlace g p → firstMet (placeRow g p ∷ []) passed ≡ passed
-  row-passes (storeOf x h) s = rw (lt-leb (g .provided) (x .entry .sector) (s .0 .low))
+  row-passes : (p : RecoveryStep) → StepFor g (Sound g) p → firstMet (recoveryRow g p ∷ []) passed ≡ passed
+  row-passes (storing (storeOf x h)) s = rw (lt-leb (g .provided) (x .entry .sector) (s .0 .low))
 
   module _ (i : ℕ) (o : AdvanceResult) (low : i < total) (R : Reached i o) where
     abbrev v : List ℕ
@@ -133,16 +128,16 @@ module _ (g : Layout) (ok : layoutOk g ≡ true) (v₀ : List ℕ) (loan : volum
     replayed : replay g v ≡ replay g v₀
     replayed = replay-kept g v v₀ (R .sections)
 
-    place : SoundPlace g (placeAt g v i)
-    place = subst (λ (xs : List Replayed). SoundPlace g (getD (plan g xs) i noPlace)) (sym replayed) (place-sound g (replay g v₀) entries i low)
+    place : StepFor g (Sound g) (recoveryStepAt g v i)
+    place = subst (λ (xs : List Replayed). StepFor g (Sound g) (getD (recoverySteps g xs) i (storing noStore))) (sym replayed) (step-every g (Sound g) (replay g v₀) entries i low)
 
-    present : i < storesOf g (replay g v)
-    present = omega (arith, ap (storesOf g) replayed)
+    present : i < stepsOf g (replay g v)
+    present = omega (arith, ap (stepsOf g) replayed)
 
-    steps : stepOf here v empty ≡ recoverPlace here v empty i (placeAt g v i)
+    steps : stepOf here v empty ≡ recoverBy here v empty i (recoveryStepAt g v i)
     steps =
-        in-phase here v empty (state-ok (Recovering i) refl) (volume-ok (Recovering i) v (R .sized) (lt-ltb i (storesOf g (replay g v)) present)) staging-ok (Recovering i) refl
-        ∙ ap (stepBy here v empty) (row-passes (placeAt g v i) place)
+        in-phase here v empty (state-ok (Recovering i) refl) (volume-ok (Recovering i) v (R .sized) (lt-ltb i (stepsOf g (replay g v)) present)) staging-ok (Recovering i) refl
+        ∙ ap (stepBy here v empty) (row-passes (recoveryStepAt g v i) place)
 
     state-here : o .state ≡ here
     state-here = R .state ∙ ap (λ (b : Bool). inState (pick b Filling (Recovering i))) (ne-eqb i total (λ z. omega arith))
@@ -152,12 +147,12 @@ module _ (g : Layout) (ok : layoutOk g ≡ true) (v₀ : List ℕ) (loan : volum
     room-here : needed g * 512 ≤ length v
     room-here = omega (arith, R .sized)
 
-    phase-next : (last : Bool) → last ≡ eqb (i + 1) (storesOf g (replay g v)) → pick last Filling (Recovering (i + 1)) ≡ phaseAfter (suc i)
+    phase-next : (last : Bool) → last ≡ eqb (i + 1) (stepsOf g (replay g v)) → pick last Filling (Recovering (i + 1)) ≡ phaseAfter (suc i)
     phase-next last q =
-        ap (λ (b : Bool). pick b Filling (Recovering (i + 1))) (q ∙ ap (λ (xs : List Replayed). eqb (i + 1) (storesOf g xs)) replayed)
+        ap (λ (b : Bool). pick b Filling (Recovering (i + 1))) (q ∙ ap (λ (xs : List Replayed). eqb (i + 1) (stepsOf g xs)) replayed)
         ∙ ap phaseAfter (add-one i)
 
-    module _ (x : Replayed) (h : ℕ) (s : Sound g x) (half : h < 2) where
+    module _ (x : Replayed) (h : ℕ) (s : Sound g x) (half : h < homeCount g (x .entry)) where
       store-reached : (y : AdvanceResult) → y .stores ≡ o .stores + 1 → y .state ≡ inState (phaseAfter (suc i))
           → y .volume ≡ made v (homeStore g v (x .entry) h) → y .staging ≡ empty → Reached (suc i) y
       store-reached y count state volume staging =
@@ -173,19 +168,19 @@ module _ (g : Layout) (ok : layoutOk g ≡ true) (v₀ : List ℕ) (loan : volum
             staging = staging;
           }
 
-      home-reached : (last : Bool) → last ≡ eqb (i + 1) (storesOf g (replay g v))
+      home-reached : (last : Bool) → last ≡ eqb (i + 1) (stepsOf g (replay g v))
           → Reached (suc i) (stepMade o (homeStep here v empty (x .entry) h last (Recovering (i + 1)) empty))
       unfolding homeStep
       home-reached true q = store-reached _ refl (ap inState (phase-next true q)) refl refl
       home-reached false q = store-reached _ refl (ap inState (phase-next false q)) refl refl
 
-    place-reached : (p : Place) → SoundPlace g p → Reached (suc i) (stepMade o (recoverPlace here v empty i p))
-    place-reached (storeOf x h) s = home-reached x h (s .0) (s .1) (eqb (i + 1) (storesOf g (replay g v))) refl
+    place-reached : (p : RecoveryStep) → StepFor g (Sound g) p → Reached (suc i) (stepMade o (recoverBy here v empty i p))
+    place-reached (storing (storeOf x h)) s = home-reached x h (s .0) (s .1) (eqb (i + 1) (stepsOf g (replay g v))) refl
 
     one-more : Reached (suc i) (oneMore o)
     one-more =
         subst (λ (x : StepResult). Reached (suc i) (stepMade o x))
-        (sym ((λ j. stepOf (state-here j) v (R .staging j)) ∙ steps)) (place-reached (placeAt g v i) place)
+        (sym ((λ j. stepOf (state-here j) v (R .staging j)) ∙ steps)) (place-reached (recoveryStepAt g v i) place)
 
   starts : Reached 0 (noStep (openedState g v₀) v₀ empty)
   starts = record { stores = refl; state = ap inState (first (ℕ-discrete total 0)); sized = refl; sections = λ k l. refl; staging = refl }
@@ -291,7 +286,7 @@ module _ (tags : Tags) (r : ℕ) (v st : List ℕ) where
     opens = ap (openBy g v st) passes-all
 
     abbrev stores : ℕ
-    stores = storesOf g (replay g v)
+    stores = stepsOf g (replay g v)
 
     abbrev last : AdvanceResult
     last = advanceOf stores (openedState g v) v (emptySection (g .width))
@@ -326,10 +321,10 @@ module _ (tags : Tags) (r : ℕ) (v st : List ℕ) where
       → (n ≡ 2 * length (replay (s .layout) v)) × EndsAfter n s v (openOf tags r v st .staging)
   open-counts s n e =
       let p : verdict ≡ passed = opened-passed s n e in
-      let a = taken-same (s, n) (openedState g v, storesOf g (replay g v)) (sym e ∙ ap (λ (o : OpenResult). o .answer) (opens p)) in
+      let a = taken-same (s, n) (openedState g v, stepsOf g (replay g v)) (sym e ∙ ap (λ (o : OpenResult). o .answer) (opens p)) in
       let es : s ≡ openedState g v = ap (λ (x : State × ℕ). x .0) a in
-      let en : n ≡ storesOf g (replay g v) = ap (λ (x : State × ℕ). x .1) a in
-      rw (es, en, opens p) (stores-twice g (replay g v), open-ends p)
+      let en : n ≡ stepsOf g (replay g v) = ap (λ (x : State × ℕ). x .1) a in
+      rw (es, en, opens p) (steps-twice g (replay g v), open-ends p)
 
 -- ---- the claims
 

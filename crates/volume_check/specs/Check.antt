@@ -5,8 +5,10 @@
 -- isBad s v st n    : whether sector n is bad: the volume provides it, and a read of it is refused. Where the volume is filling, that is by refusal 7 alone
 -- flagsOf bad n     : a byte for each sector below n: 1 where it is bad, else 0
 -- countOf bad n     : how many of them are bad
+-- Flagged bad n r l : r is how many, and l the bytes
 use Prim.Native.Nat.{ℕ, zero, suc, _+_}
 use mathlib.Core.Bool.{Bool, not, _&&_}
+use mathlib.Core.Path.{_≡_}
 use mathlib.Core.List.{List, [], _∷_}
 use lib.ListN.{replicate}
 use lib.Dec.{ltb}
@@ -15,7 +17,7 @@ use Rattle.octets.specs.Choice.{pick}
 use Rattle.octets.specs.Sectors.{sectorSize}
 use Rattle.model.specs.declared.State.{State}
 use Rattle.model.specs.Refusal.{refusalOf}
-use Rattle.model.specs.Section.{collect}
+use Rattle.octets.specs.Lists.{collect}
 use Rattle.model.specs.Tag.{tagOf}
 use Rattle.model.specs.Open.{OpenResult, openOf}
 use Rattle.model.specs.Advance.{AdvanceResult, advanceOf}
@@ -58,3 +60,6 @@ flagsOf bad n = collect n (λ i. pick (bad i) 1 0 ∷ [])
 abbrev pub countOf : (ℕ → Bool) → ℕ → ℕ
 countOf bad zero = 0
 countOf bad (suc n) = countOf bad n + pick (bad n) 1 0
+
+abbrev pub Flagged : (ℕ → Bool) → ℕ → ℕ → List ℕ → Type 0
+Flagged bad n r l = (r ≡ countOf bad n) × (l ≡ flagsOf bad n)

@@ -8,7 +8,7 @@ ghost use mathlib.Core.Path.{_≡_};
 ghost use Prim.Native.Nat.{_≤_};
 ghost use lib.ListN.{length};
 ghost use Rattle.octets.specs.Choice.{pick};
-ghost use Rattle.volume_check.specs.Check.{recoverAnswer, recoverOf, isBad, flagsOf, countOf};
+ghost use Rattle.volume_check.specs.Check.{recoverAnswer, recoverOf, isBad, Flagged};
 
 pub enum RecoverAnswer {
     // The state, and how many stores were to come.
@@ -57,7 +57,7 @@ fn flag(b: bool) -> u8
 
 // Which sectors are bad, a byte for each, as many as are lent: 1 for a bad one, else 0. Answers how many are.
 pub fn bad_sectors(s: State, v: &[u8], st: &[u8], flags: &mut [u8]) -> usize
-    ensures { λ r. ⌜ (r ≡ countOf (isBad s (now (v .entry)) (now (st .entry))) (length (now (flags .entry)))) × (now (flags .exit) ≡ flagsOf (isBad s (now (v .entry)) (now (st .entry))) (length (now (flags .entry)))) ⌝ }
+    ensures { λ r. ⌜ Flagged (isBad s (now (v .entry)) (now (st .entry))) (length (now (flags .entry))) r (now (flags .exit)) ⌝ }
 {
     let mut count = 0;
     let mut i = 0;

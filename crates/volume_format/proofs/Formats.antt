@@ -17,12 +17,12 @@ use Rattle.octets.proofs.Parts.{patch-join}
 use Rattle.digest.specs.Sha256.{sha256}
 use Rattle.digest.specs.Sha256.Promise.{length-sha256}
 use Rattle.model.specs.declared.Layout.{Layout}
-use Rattle.model.specs.Layout.{sectionSize, sectionAt, base, runLength, tagArea, needed, layoutOk}
+use Rattle.model.specs.Layout.{mostProvided, sectionSize, sectionAt, base, runLength, tagArea, needed, layoutOk}
 use Rattle.model.specs.Superblock.{superblockOf, superblockAt, isZero}
 use Rattle.model.specs.State.{passed, volumeLoanOk}
 use Rattle.model.proofs.Addresses.{Ranged, ranged, base-room}
 use Rattle.model.proofs.Formats.{super-length}
-use Rattle.model.specs.Section.{collect}
+use Rattle.octets.specs.Lists.{collect}
 use Rattle.model.specs.Tag.{Tags, tagOf}
 use Rattle.model.specs.Format.{zeros, freshTags, freshRun, lastRun, lastLength, freshVolume, formatOf}
 use Rattle.model.proofs.Sections.{length-collect}
@@ -65,9 +65,9 @@ module _ (g : Layout) (ok : layoutOk g ≡ true) where
       let b : runLength g * g .width ≤ runLength g * 32 = mul-le-mul-left (runLength g) (width-high g ok) in
       omega (arith, run-high g ok)
 
-  pub first-high : (q m : ℕ) → q ≤ 65536 → m ≡ runLength g → q * m ≤ 2 ^ 31
+  pub first-high : (q m : ℕ) → q ≤ mostProvided → m ≡ runLength g → q * m ≤ 2 ^ 31
   first-high q m h e =
-      let a : q * m ≤ 65536 * m = mul-le-mul-right m h in
+      let a : q * m ≤ mostProvided * m = mul-le-mul-right m h in
       omega (arith, run-high g ok)
 
   -- tags, zeros to the end of the tag area, zero data: one patch
@@ -140,7 +140,7 @@ module _ (g : Layout) (ok : layoutOk g ≡ true) (v : List ℕ) (room : needed g
   pub last-short : lastLength g ≤ runLength g
   last-short = omega (arith, mod-lt (g .provided - 1) (run-low g ok))
 
-  pub last-low : lastRun g ≤ 65536
+  pub last-low : lastRun g ≤ mostProvided
   last-low = omega (arith, div-le-self (g .provided - 1) (runLength g), provided-high g ok)
 
   pub runs-fit : base g * 512 + lastRun g * ((tagArea g + runLength g) * 512) + (tagArea g + lastLength g) * 512 ≤ length v

@@ -12,12 +12,13 @@ ghost use Prim.Native.Nat.{_+_, _*_, _^_, _≤_};
 ghost use lib.ListN.{length};
 ghost use Rattle.octets.specs.Parts.{patch};
 ghost use Rattle.octets.specs.Sectors.{sectorSize};
-ghost use Rattle.model.specs.Layout.{sectionSize, base, runLength, tagArea, needed, layoutOk};
+ghost use Rattle.model.specs.Layout.{mostProvided, sectionSize, base, runLength, tagArea, needed, layoutOk};
 ghost use Rattle.model.specs.Superblock.{superblockOf};
-ghost use Rattle.model.specs.Section.{collect};
+ghost use Rattle.octets.specs.Lists.{collect};
 ghost use Rattle.model.specs.Tag.{tagOf};
 ghost use Rattle.model.specs.Refusal.{formatAnswer};
-ghost use Rattle.model.specs.Format.{zeros, freshRun, lastRun, lastLength, formatOf};
+ghost use Rattle.model.specs.Format.{zeros, freshRun, formatOf};
+ghost use Rattle.volume_format.specs.Runs.{freshRuns};
 
 // Stores the tags of the n logical sectors from first on, all zero, from byte at on.
 fn put_tags(v: &mut [u8], first: usize, n: usize, width: usize, at: usize)
@@ -35,7 +36,7 @@ fn put_tags(v: &mut [u8], first: usize, n: usize, width: usize, at: usize)
 
 // Stores run q with n data sectors, from byte at on: their tags, zeros to the end of the tag area, zero data.
 fn put_run(v: &mut [u8], g: Layout, q: usize, n: usize, at: usize)
-    requires { ⌜ (layoutOk g ≡ true) × (n ≤ runLength g) × (q ≤ 65536) × (at + (tagArea g + n) * 512 ≤ length (now v)) ⌝ }
+    requires { ⌜ (layoutOk g ≡ true) × (n ≤ runLength g) × (q ≤ mostProvided) × (at + (tagArea g + n) * 512 ≤ length (now v)) ⌝ }
     ensures { λ r. ⌜ now (v .exit) ≡ patch (now (v .entry)) at (freshRun (tagOf (g .width)) g q n) ⌝ }
 {
     put_tags(v, q * layout::run_length(g), n, g.width, at);
@@ -47,7 +48,7 @@ fn put_run(v: &mut [u8], g: Layout, q: usize, n: usize, at: usize)
 
 // Stores the first n runs, each with all its data sectors, from byte at on.
 fn put_runs(v: &mut [u8], g: Layout, n: usize, at: usize)
-    requires { ⌜ (layoutOk g ≡ true) × (n ≤ 65536) × (at + n * ((tagArea g + runLength g) * 512) ≤ length (now v)) ⌝ }
+    requires { ⌜ (layoutOk g ≡ true) × (n ≤ mostProvided) × (at + n * ((tagArea g + runLength g) * 512) ≤ length (now v)) ⌝ }
     ensures { λ r. ⌜ now (v .exit) ≡ patch (now (v .entry)) at (collect n (λ q. freshRun (tagOf (g .width)) g q (runLength g))) ⌝ }
 {
     let sectors = layout::run_length(g);
@@ -74,7 +75,7 @@ fn put_head(v: &mut [u8], g: Layout)
 // Stores every run; the last has only the data sectors still needed.
 fn put_tail(v: &mut [u8], g: Layout)
     requires { ⌜ (layoutOk g ≡ true) × (needed g * 512 ≤ length (now v)) ⌝ }
-    ensures { λ r. ⌜ now (v .exit) ≡ patch (now (v .entry)) (base g * 512) (collect (lastRun g) (λ q. freshRun (tagOf (g .width)) g q (runLength g)) ++ freshRun (tagOf (g .width)) g (lastRun g) (lastLength g)) ⌝ }
+    ensures { λ r. ⌜ now (v .exit) ≡ patch (now (v .entry)) (base g * 512) (freshRuns (tagOf (g .width)) g) ⌝ }
 {
     let start = layout::section_at(g, g.sections) * SECTOR_SIZE;
     let sectors = layout::run_length(g);

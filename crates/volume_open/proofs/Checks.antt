@@ -19,7 +19,8 @@ use Rattle.octets.specs.Parts.{part, same}
 use Rattle.digest.specs.Sha256.{sha256}
 use Rattle.model.specs.declared.Layout.{Layout}
 use Rattle.model.specs.declared.Refusal.{Refusal}
-use Rattle.model.specs.Section.{Entry, unused, collect}
+use Rattle.model.specs.Section.{Entry, unused}
+use Rattle.octets.specs.Lists.{collect}
 use Rattle.model.specs.Journal.{sectionOf, dueIds, Found, ordered, Replayed, usedEntry, usedOf, replayIn}
 use Rattle.model.specs.Layout.{layoutOk}
 use Rattle.model.specs.Tag.{Tag, tagOf}
@@ -72,10 +73,10 @@ module _ (tag : Tag) (g : Layout) where
       go (leb (g .provided) (x .entry .sector)) (not (same (x .entry .tag) (tag (x .entry .sector) (x .entry .bytes)))) (verdict-append a b)
     where
       range : Verdict
-      range = refuse 6 (x .section ∷ x .place ∷ [])
+      range = refuse 6 (x .section ∷ x .index ∷ [])
 
       mismatch : Verdict
-      mismatch = refuse 7 (x .section ∷ x .place ∷ [])
+      mismatch = refuse 7 (x .section ∷ x .index ∷ [])
 
       go : (p q : Bool) → verdictOf (a ++ b) ≡ after (verdictOf a) (verdictOf b)
           → pick p range (pick q mismatch (verdictOf (a ++ b))) ≡ after (pick p range (pick q mismatch (verdictOf a))) (verdictOf b)

@@ -17,13 +17,14 @@ use Rattle.model.specs.declared.Phase.{Phase}
 use Rattle.model.specs.declared.Refusal.{Refusal}
 use Rattle.model.specs.Layout.{needed, layoutOk}
 use Rattle.model.specs.Superblock.{superblockAt, layoutIn}
-use Rattle.model.specs.Section.{allBelow, emptySection}
+use Rattle.model.specs.Section.{emptySection}
+use Rattle.octets.specs.Lists.{allBelow, firstBelow}
 use Rattle.model.specs.Journal.{greatestId, replay}
-use Rattle.model.specs.Store.{storesOf}
+use Rattle.model.specs.Store.{stepsOf}
 use Rattle.model.specs.Tag.{Tags, tagOf}
 use Rattle.model.specs.Refusal.{refusalOf}
 use Rattle.model.specs.State.{Verdict, passed, lastId, stagingOk}
-use Rattle.model.specs.Open.{misplaced, firstBelow, superblockRows, entriesVerdict, phaseFor, OpenResult, openBy, openWith, openOf}
+use Rattle.model.specs.Open.{misplaced, superblockRows, entriesVerdict, phaseFor, OpenResult, openBy, openWith, openOf}
 use Rattle.model.specs.Query.{queryOf}
 use Rattle.journal.proofs.Scans.{some-below, none-below}
 use Rattle.volume_open.specs.Results.{checked}
@@ -81,12 +82,12 @@ module _ (tags : Tags) (g : Layout) (r : ℕ) (v st : List ℕ) where
           entry-refused x e =
               sym (behind ∙ rw (staging, ids-left, in-place) (ap (openBy g v st) (sym is ∙ ap checked e)))
 
-          pub opened : c ≡ check.Passed → (o : List ℕ) → o ≡ emptySection (g .width) → (t : ℕ) → t ≡ storesOf g (replay g v) → (p : Phase) → p ≡ phaseFor t
+          pub opened : c ≡ check.Passed → (o : List ℕ) → o ≡ emptySection (g .width) → (t : ℕ) → t ≡ stepsOf g (replay g v) → (p : Phase) → p ≡ phaseFor t
               → record { answer = taken (record { layout = g; phase = p; count = 0; id = n + 1 }, t); staging = o } ≡ openWith tags g r v st
           opened e o eo t et p ep =
               sym (behind ∙ rw (staging, ids-left, in-place) (ap (openBy g v st) (sym is ∙ ap checked e) ∙ sym results))
             where
-              phase : p ≡ phaseFor (storesOf g (replay g v))
+              phase : p ≡ phaseFor (stepsOf g (replay g v))
               phase = ep ∙ ap phaseFor et
 
               results : record { answer = taken (record { layout = g; phase = p; count = 0; id = n + 1 }, t); staging = o } ≡ openBy g v st passed

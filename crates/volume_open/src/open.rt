@@ -127,7 +127,7 @@ fn open_journal(v: &[u8], st: &mut [u8], g: Layout) -> OpenAnswer
         Check::Refused(refusal) => return OpenAnswer::Refused(refusal),
     }
     section::clear_section(st, g.width);
-    let stores = sections::count_stores(&ids, v, g);
+    let stores = sections::count_steps(&ids, v, g);
     let opened = State {
         layout: g,
         phase: phase_for(stores),

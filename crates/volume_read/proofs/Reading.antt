@@ -17,7 +17,8 @@ use Rattle.digest.specs.Sha256.{sha256}
 use Rattle.model.specs.declared.Layout.{Layout}
 use Rattle.model.specs.declared.State.{State}
 use Rattle.model.specs.Layout.{dataAt, tagByte}
-use Rattle.model.specs.Section.{entryOf, allBelow}
+use Rattle.model.specs.Section.{entryOf}
+use Rattle.octets.specs.Lists.{allBelow}
 use Rattle.model.specs.Tag.{Tags, tagOf, tagAt}
 use Rattle.model.specs.State.{passed, stateOk, volumeOk, stagingOk, isRecovering}
 use Rattle.model.specs.Read.{newest, staged, readOf}

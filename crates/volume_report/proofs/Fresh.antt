@@ -21,11 +21,12 @@ use Rattle.model.specs.Open.{OpenResult, openOf}
 use Rattle.model.specs.Query.{queryOf}
 use Rattle.model.specs.Read.{ReadResult, readOf}
 use Rattle.model.specs.Advance.{advanceFrom}
-use Rattle.model.specs.World.{anOpen, openWorld, after}
+use Rattle.model.specs.Medium.{mediumOf}
+use Rattle.model.specs.World.{anOpen, byOpen, after}
 use Rattle.model.specs.Guarantees.{OpensFresh}
 use Rattle.model.proofs.Demand3.{demand3-sha256, formatted-length, fresh-opens}
 use Rattle.volume_check.specs.Check.{recoverFrom, recoverOf, isBad, countOf}
-use Rattle.volume_report.specs.Report.{mostSectors, decimal, layoutLine, lineOf, badLine, badLines, checkText, reportFrom, reportHeld, reportOf, FreshReports, example, FreshPrints}
+use Rattle.volume_report.specs.Report.{mostImageSectors, decimal, layoutLine, lineOf, badLine, badLines, checkText, reportFrom, reportHeld, reportOf, FreshReports, example, FreshPrints}
 
 -- ---- a check that finds no bad sector
 
@@ -69,8 +70,8 @@ module _ (g : Layout) (v : List ℕ) (e : formatOf tagOf g v .answer ≡ passed)
   unfolding after
   found n l =
       ap (λ (o : ReadResult). isTaken (o .answer))
-      (demand3-sha256 g v e (anOpen st ∷ []) (ap (λ (o : OpenResult). openWorld v₀ o .settled) opens)
-      .reads s₀ empty (replicate 512 0) n (ap (λ (o : OpenResult). openWorld v₀ o .live) opens) (length-replicate {A = ℕ} 512 0) l)
+      (demand3-sha256 g v e (anOpen st ∷ []) (ap (λ (o : OpenResult). byOpen (mediumOf v₀) (o .staging) (o .answer) .world .settled) opens)
+      .reads s₀ empty (replicate 512 0) n (ap (λ (o : OpenResult). byOpen (mediumOf v₀) (o .staging) (o .answer) .world .live) opens) (length-replicate {A = ℕ} 512 0) l)
 
   good : (n : ℕ) → n < g .provided → isBad s₀ v₀ empty n ≡ false
   unfolding isBad
@@ -80,7 +81,7 @@ module _ (g : Layout) (v : List ℕ) (e : formatOf tagOf g v .answer ≡ passed)
   unfolding advanceFrom
   recovers = ap (λ (o : OpenResult). reportFrom g (recoverFrom v₀ o) .text) opens
 
-  module _ (none : g .reserved ≡ 0) (small : length v₀ ≤ mostSectors * 512) where
+  module _ (none : g .reserved ≡ 0) (small : length v₀ ≤ mostImageSectors * 512) where
     held : reportHeld v₀ (queryOf 0 v₀) .text ≡ reportFrom g (recoverOf 0 v₀ st) .text
     held = ap (λ (r : ℕ). reportHeld v₀ (queryOf r v₀) .text) (sym none) ∙ ap (λ (q : Answer ℕ (Layout × ℕ)). reportHeld v₀ q .text) (fresh .queried)
 
@@ -92,7 +93,7 @@ module _ (g : Layout) (v : List ℕ) (e : formatOf tagOf g v .answer ≡ passed)
     reports : reportOf v₀ .text ≡ checkText g 0 (λ s. false)
     unfolding reportOf
     reports =
-        rw (le-ltb (mostSectors * 512) (length v₀) small)
+        rw (le-ltb (mostImageSectors * 512) (length v₀) small)
         (held ∙ ap (λ o. reportFrom g o .text) decoded ∙ recovers ∙ none-bad (isBad s₀ v₀ empty) g good)
 
 pub fresh-reports : FreshReports

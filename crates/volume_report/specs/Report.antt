@@ -1,6 +1,6 @@
 -- The report of a check, as text: document 01, "Bench program".
 --
--- bytesOf s       : the bytes of a text: the ASCII code of each character
+-- charactersOf s       : the bytes of a text: the ASCII code of each character
 -- decimal n       : a number in decimal, without leading zeros; n is below 10^20
 -- fieldOf w n     : a word, then a number
 -- lineOf w n      : the same as the end of a line
@@ -27,7 +27,7 @@ use Rattle.octets.specs.Sectors.{sectorSize}
 use Rattle.model.specs.declared.Layout.{Layout}
 use Rattle.model.specs.declared.State.{State}
 use Rattle.model.specs.Layout.{runLength}
-use Rattle.model.specs.Section.{collect}
+use Rattle.octets.specs.Lists.{collect}
 use Rattle.model.specs.Tag.{tagOf}
 use Rattle.model.specs.State.{passed}
 use Rattle.model.specs.Format.{formatOf}
@@ -35,14 +35,14 @@ use Rattle.model.specs.Query.{queryOf}
 use Rattle.volume_check.specs.Check.{RecoverResult, recoverOf, isBad, countOf}
 
 -- "an image of at most 128 sectors"
-abbrev pub mostSectors : ℕ
-mostSectors = 128
+abbrev pub mostImageSectors : ℕ
+mostImageSectors = 128
 
 -- ---- words and numbers
 
-abbrev pub bytesOf : String → List ℕ
-bytesOf noText = []
-bytesOf (c then s) = code c ∷ bytesOf s
+abbrev pub charactersOf : String → List ℕ
+charactersOf noText = []
+charactersOf (c then s) = code c ∷ charactersOf s
 
 -- how many digits n has, where they are at most most + 1
 abbrev pub places : (most : ℕ) → ℕ → ℕ
@@ -53,10 +53,10 @@ unfoldable pub decimal : ℕ → List ℕ
 decimal n = digits 10 (places 19 n) n
 
 abbrev pub fieldOf : String → ℕ → List ℕ
-fieldOf w n = bytesOf w ++ decimal n
+fieldOf w n = charactersOf w ++ decimal n
 
 abbrev pub newline : List ℕ
-newline = bytesOf "\n"
+newline = charactersOf "\n"
 
 abbrev pub lineOf : String → ℕ → List ℕ
 lineOf w n = fieldOf w n ++ newline
@@ -109,13 +109,13 @@ reportHeld v (refused r) = refusedReport v r
 
 -- "A refused opening, or input too long (1)"
 unfoldable pub reportOf : List ℕ → Report
-reportOf v = pick (ltb (mostSectors * sectorSize) (length v)) (refusedReport v (refusal 1 [])) (reportHeld v (queryOf 0 v))
+reportOf v = pick (ltb (mostImageSectors * sectorSize) (length v)) (refusedReport v (refusal 1 [])) (reportHeld v (queryOf 0 v))
 
 -- of a volume that format left, as an image: no store to come, and no bad sector. The proof is in proofs/Fresh.
 abbrev pub FreshReports : Type 0
 FreshReports =
     (g : Layout) (v : List ℕ) → formatOf tagOf g v .answer ≡ passed → g .reserved ≡ 0
-    → length (formatOf tagOf g v .volume) ≤ mostSectors * sectorSize
+    → length (formatOf tagOf g v .volume) ≤ mostImageSectors * sectorSize
     → reportOf (formatOf tagOf g v .volume) .text ≡ checkText g 0 (λ s. false)
 
 -- "A fresh image with T 32, N 16, S 1, P 16 prints exactly"
@@ -124,8 +124,8 @@ example = record { reserved = 0; shift = 4; width = 32; sections = 1; provided =
 
 abbrev pub FreshPrints : Type 0
 FreshPrints =
-    (v : List ℕ) → formatOf tagOf example v .answer ≡ passed → length (formatOf tagOf example v .volume) ≤ mostSectors * sectorSize
-    → reportOf (formatOf tagOf example v .volume) .text ≡ bytesOf "tag 32 run 16 sections 1 provided 16\nreplay 0\nbad 0\n"
+    (v : List ℕ) → formatOf tagOf example v .answer ≡ passed → length (formatOf tagOf example v .volume) ≤ mostImageSectors * sectorSize
+    → reportOf (formatOf tagOf example v .volume) .text ≡ charactersOf "tag 32 run 16 sections 1 provided 16\nreplay 0\nbad 0\n"
 
 -- ---- what a call did with the loan that takes the text
 

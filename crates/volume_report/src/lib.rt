@@ -19,7 +19,7 @@ ghost use Rattle.volume_check.specs.Check.{recoverOf, isBad};
 ghost use Rattle.volume_report.specs.Report.{newline, decimal, layoutLine, flagged, badLine, badLines, refusedLine, checkedText, checkText, reportFrom, reportOf, Puts, Reports};
 
 // The most sectors of an image.
-pub const MOST_SECTORS: usize = 128;
+pub const MOST_IMAGE_SECTORS: usize = 128;
 
 // The bytes of the longest report: 128 lines for bad sectors, and the others.
 pub const REPORT_SIZE: usize = 8192;
@@ -158,7 +158,7 @@ pub fn report(image: &mut [u8], text: &mut [u8; REPORT_SIZE]) -> usize
     ensures { λ n. ⌜ Reports (reportOf (now (image .entry))) (now (text .entry)) n (now (text .exit)) (now (image .exit)) ⌝ }
     ensures { λ n. ⌜ Counts n (now (text .exit)) ⌝ }
 {
-    if MOST_SECTORS * SECTOR_SIZE < image.len() {
+    if MOST_IMAGE_SECTORS * SECTOR_SIZE < image.len() {
         return put_refused(text, Refusal::Malformed);
     }
     let held = volume::query::query(image, 0);
@@ -166,7 +166,7 @@ pub fn report(image: &mut [u8], text: &mut [u8; REPORT_SIZE]) -> usize
         QueryAnswer::Holds(g, n) => {
             let provided = g.provided;
             let mut staging = [0u8; STAGING_SIZE];
-            let mut flags = [0u8; MOST_SECTORS];
+            let mut flags = [0u8; MOST_IMAGE_SECTORS];
             report_on(image, g, &mut staging[..n], &mut flags[..provided], text)
         }
         QueryAnswer::Refused(r) => put_refused(text, r),

@@ -21,13 +21,15 @@ use Rattle.model.specs.declared.Stepped.{Stepped}
 use Rattle.model.specs.Refusal.{stepAnswer}
 use Rattle.model.specs.Section.{entryOf}
 use Rattle.model.specs.Journal.{sectionOf, replay}
-use Rattle.model.specs.Store.{Store, Effect, none, one, made, contentOf, homeStore, storesOf}
+use Rattle.model.specs.Store.{Store, Effect, none, one, made, contentOf, homeStore, stepsOf}
 use Rattle.model.specs.State.{stateOk, volumeOk, stagingOk}
-use Rattle.model.specs.Step.{StepResult, placeAt, stepOf}
+use Rattle.model.specs.Step.{stepOf}
+use Rattle.model.specs.StepResult.{StepResult}
 use Rattle.model.specs.NextStore.{nextStoreOf, storeNamed, Within, sectorNamed, sectorStored, StepStores}
 use Rattle.model.proofs.NextStore.{step-stores}
 use Rattle.section.specs.declared.Location.{Location}
 use Rattle.section.specs.Locations.{Locates}
+use Rattle.journal.specs.Replay.{entryStoreAt}
 use Rattle.volume_step.specs.Results.{recovered, Leaves, Fills, Inside}
 use Rattle.volume_step.proofs.Steps.{place-told}
 
@@ -82,7 +84,7 @@ module _ (s : State) (v st out : List ℕ) (size : length out ≡ 512) (o : Step
 -- ---- a store of a recovery, made
 
 module _ (s : State) (v st : List ℕ) (sound : stateOk s ≡ true) (fits : volumeOk s v ≡ true) (staging : stagingOk (s .layout) st ≡ true)
-    (k : ℕ) (phase : s .phase ≡ Recovering k) (x : Location) (found : Locates (s .layout) (sectionOf (s .layout) v (x .section)) x (placeAt (s .layout) v k))
+    (k : ℕ) (phase : s .phase ≡ Recovering k) (x : Location) (found : Locates (s .layout) (sectionOf (s .layout) v (x .section)) x (entryStoreAt (s .layout) v k))
     (n : ℕ) (en : n ≡ entryOf (s .layout .width) (sectionOf (s .layout) v (x .section)) (x .entry) .sector) (low : n < s .layout .provided) where
   abbrev home : Store
   home = homeStore (s .layout) v (entryOf (s .layout .width) (sectionOf (s .layout) v (x .section)) (x .entry)) (x .store)
@@ -94,7 +96,7 @@ module _ (s : State) (v st : List ℕ) (sound : stateOk s ≡ true) (fits : volu
     stored-there false e =
         made-home .1 ∙ ap (λ (a : ℕ). putSector v a (home .content)) (sym (made-home .0)) ∙ ap (λ (y : Stepped). storeNamed v (stepAnswer (y .answer)) (home .content)) (sym e)
 
-    pub place-made : (more : Bool) → more ≡ ltb (k + 1) (storesOf (s .layout) (replay (s .layout) v)) → o ≡ recovered s at (k + 1) more → Leaves v (stepOf s v st) o v′ st
+    pub place-made : (more : Bool) → more ≡ ltb (k + 1) (stepsOf (s .layout) (replay (s .layout) v)) → o ≡ recovered s at (k + 1) more → Leaves v (stepOf s v st) o v′ st
     place-made more q e =
         let filled = place-told s v st [] sound fits staging k phase x found n en low at (home .content) (λ i. record { at = made-home .0 i; content = home .content }) o more q e in
         record {

@@ -24,13 +24,16 @@ use Rattle.model.specs.Refusal.{refusalOf, stepAnswer}
 use Rattle.model.specs.Layout.{sectionSize}
 use Rattle.model.specs.Section.{Entry, entryOf, emptySection}
 use Rattle.model.specs.Journal.{sectionOf, replay}
-use Rattle.model.specs.Store.{Store, one, homeCount, homeStore, Place, storesOf}
-use Rattle.model.specs.State.{passed, stateOk, volumeOk, stagingOk}
-use Rattle.model.specs.Flush.{inPhase}
-use Rattle.model.specs.Step.{StepResult, placeAt, rangeRows, commitStore, commitStep, homeStep, writeBackStep, recoverPlace, phaseStep, stepBy, stepOf}
+use Rattle.model.specs.Store.{Store, one, homeCount, homeStore, RecoveryStep, storing, stepsOf, recoveryStepAt}
+use Rattle.model.specs.State.{passed, stateOk, volumeOk, stagingOk, inPhase}
+use Rattle.model.specs.Step.{rangeRows, phaseStep, stepBy, stepOf}
+use Rattle.model.specs.JournalStep.{commitStore, commitStep, homeStep, writeBackStep, recoverBy}
+use Rattle.model.specs.StepResult.{StepResult}
 use Rattle.model.specs.NextStore.{nextStoreOf}
 use Rattle.section.specs.declared.Location.{Location}
-use Rattle.section.specs.Locations.{Locates}
+use Rattle.section.specs.Locations.{entryStoreOf, Locates}
+use Rattle.journal.specs.Replay.{entryStoreAt}
+use Rattle.journal.proofs.Recovery.{step-store}
 use Rattle.volume_step.specs.Results.{recovered, Fills}
 use Rattle.model.proofs.States.{volume-replay}
 
@@ -153,58 +156,58 @@ module _ (s : State) (v st out : List ℕ) where
         writes st′ e =
             runs (phases.WritingBack i h) phase (rw (lt-leb (s .layout .provided) (entryOf (s .layout .width) st i .sector) (omega (arith, en)))) o out′ st′ e
 
-        pub same-entry : o ≡ record { answer = answers.Stepped (Stored at) Nothing; state = inPhase s (phases.WritingBack i (h + 1)) } → h + 1 < 2
+        pub same-entry : o ≡ record { answer = answers.Stepped (Stored at) Nothing; state = inPhase s (phases.WritingBack i (h + 1)) } → h + 1 < homeCount (s .layout) (entryOf (s .layout .width) st i)
             → Fills out (stepOf s v st) o out′ st
-        unfolding homeCount
         same-entry e l =
             writes st
-            (rw (ne-eqb (h + 1) 2 (λ z. omega arith))
+            (rw (ne-eqb (h + 1) (homeCount (s .layout) (entryOf (s .layout .width) st i)) (λ z. omega arith))
             (home-next (entryOf (s .layout .width) st i) h at out′ is false (phases.WritingBack i (h + 1)) (emptySection (s .layout .width)) o refl e))
 
-        pub next-entry : o ≡ record { answer = answers.Stepped (Stored at) Nothing; state = inPhase s (phases.WritingBack (i + 1) 0) } → h + 1 ≡ 2 → i + 1 < s .count
+        pub next-entry : o ≡ record { answer = answers.Stepped (Stored at) Nothing; state = inPhase s (phases.WritingBack (i + 1) 0) } → h + 1 ≡ homeCount (s .layout) (entryOf (s .layout .width) st i) → i + 1 < s .count
             → Fills out (stepOf s v st) o out′ st
-        unfolding homeCount
         next-entry e z l =
             writes st
-            (rw (eq-eqb (h + 1) 2 z, ne-eqb (i + 1) (s .count) (λ y. omega arith))
+            (rw (eq-eqb (h + 1) (homeCount (s .layout) (entryOf (s .layout .width) st i)) z, ne-eqb (i + 1) (s .count) (λ y. omega arith))
             (home-next (entryOf (s .layout .width) st i) h at out′ is false (phases.WritingBack (i + 1) 0) (emptySection (s .layout .width)) o refl e))
 
         pub last-entry : o ≡ record { answer = answers.Stepped (Stored at) Filling; state = record { layout = s .layout; phase = phases.Filling; count = 0; id = s .id } }
-            → h + 1 ≡ 2 → i + 1 ≡ s .count → (st′ : List ℕ) → st′ ≡ emptySection (s .layout .width) → Fills out (stepOf s v st) o out′ st′
-        unfolding homeCount
+            → h + 1 ≡ homeCount (s .layout) (entryOf (s .layout .width) st i) → i + 1 ≡ s .count → (st′ : List ℕ) → st′ ≡ emptySection (s .layout .width) → Fills out (stepOf s v st) o out′ st′
         last-entry e z y st′ es =
             rw es
             (writes (emptySection (s .layout .width))
-            (rw (eq-eqb (h + 1) 2 z, eq-eqb (i + 1) (s .count) y)
+            (rw (eq-eqb (h + 1) (homeCount (s .layout) (entryOf (s .layout .width) st i)) z, eq-eqb (i + 1) (s .count) y)
             (home-last (entryOf (s .layout .width) st i) h at out′ is true (phases.WritingBack (i + 1) 0) (emptySection (s .layout .width)) o refl e)))
 
     -- ---- recovering
 
-    module _ (k : ℕ) (phase : s .phase ≡ phases.Recovering k) (x : Location) (found : Locates (s .layout) (sectionOf (s .layout) v (x .section)) x (placeAt (s .layout) v k))
+    module _ (k : ℕ) (phase : s .phase ≡ phases.Recovering k) (x : Location) (found : Locates (s .layout) (sectionOf (s .layout) v (x .section)) x (entryStoreAt (s .layout) v k))
         (n : ℕ) (en : n ≡ entryOf (s .layout .width) (sectionOf (s .layout) v (x .section)) (x .entry) .sector) where
       abbrev entry : Entry
       entry = entryOf (s .layout .width) (sectionOf (s .layout) v (x .section)) (x .entry)
 
+      step-found : recoveryStepAt (s .layout) v k ≡ storing (entryStoreOf (s .layout .width) (sectionOf (s .layout) v (x .section)) x)
+      step-found = step-store (s .layout) v k ∙ ap storing (sym (found .names))
+
       pub journal-range : (o : Stepped) → Refuses o (JournalRange (x .section) (x .entry)) → s .layout .provided ≤ n → Fills out (stepOf s v st) o out st
       journal-range o r l =
           out-of-range (phases.Recovering k) phase (JournalRange (x .section) (x .entry))
-          (rw (← found .place, le-leb (s .layout .provided) (entry .sector) (omega (arith, en)))) o r
+          (rw (step-found, le-leb (s .layout .provided) (entry .sector) (omega (arith, en)))) o r
 
       module _ (low : n < s .layout .provided) (at : ℕ) (out′ : List ℕ) (is : record { at = at; content = out′ } ≡ homeStore (s .layout) v entry (x .store))
           (o : Stepped) where
-        recovers : Fills out (homeStep s v st entry (x .store) (eqb (k + 1) (storesOf (s .layout) (replay (s .layout) v))) (phases.Recovering (k + 1)) st) o out′ st
+        recovers : Fills out (homeStep s v st entry (x .store) (eqb (k + 1) (stepsOf (s .layout) (replay (s .layout) v))) (phases.Recovering (k + 1)) st) o out′ st
             → Fills out (stepOf s v st) o out′ st
         recovers e =
-            runs (phases.Recovering k) phase (rw (← found .place, lt-leb (s .layout .provided) (entry .sector) (omega (arith, en)))) o out′ st
-            (subst (λ (p : Place). Fills out (recoverPlace s v st k p) o out′ st) (found .place) e)
+            runs (phases.Recovering k) phase (rw (step-found, lt-leb (s .layout .provided) (entry .sector) (omega (arith, en)))) o out′ st
+            (subst (λ (p : RecoveryStep). Fills out (recoverBy s v st k p) o out′ st) (sym step-found) e)
 
-        pub place-told : (more : Bool) → more ≡ ltb (k + 1) (storesOf (s .layout) (replay (s .layout) v)) → o ≡ recovered s at (k + 1) more → Fills out (stepOf s v st) o out′ st
+        pub place-told : (more : Bool) → more ≡ ltb (k + 1) (stepsOf (s .layout) (replay (s .layout) v)) → o ≡ recovered s at (k + 1) more → Fills out (stepOf s v st) o out′ st
         place-told true q e =
             recovers
-            (home-next entry (x .store) at out′ is (eqb (k + 1) (storesOf (s .layout) (replay (s .layout) v))) (phases.Recovering (k + 1)) st o
-            (ne-eqb (k + 1) (storesOf (s .layout) (replay (s .layout) v)) (λ z. omega (arith, ltb-true (k + 1) (storesOf (s .layout) (replay (s .layout) v)) (sym q)))) e)
+            (home-next entry (x .store) at out′ is (eqb (k + 1) (stepsOf (s .layout) (replay (s .layout) v))) (phases.Recovering (k + 1)) st o
+            (ne-eqb (k + 1) (stepsOf (s .layout) (replay (s .layout) v)) (λ z. omega (arith, ltb-true (k + 1) (stepsOf (s .layout) (replay (s .layout) v)) (sym q)))) e)
         place-told false q e =
             recovers
-            (home-last entry (x .store) at out′ is (eqb (k + 1) (storesOf (s .layout) (replay (s .layout) v))) (phases.Recovering (k + 1)) st o
-            (eq-eqb (k + 1) (storesOf (s .layout) (replay (s .layout) v))
-            (omega (arith, volume-replay s v fits k phase, ltb-false (k + 1) (storesOf (s .layout) (replay (s .layout) v)) (sym q)))) e)
+            (home-last entry (x .store) at out′ is (eqb (k + 1) (stepsOf (s .layout) (replay (s .layout) v))) (phases.Recovering (k + 1)) st o
+            (eq-eqb (k + 1) (stepsOf (s .layout) (replay (s .layout) v))
+            (omega (arith, volume-replay s v fits k phase, ltb-false (k + 1) (stepsOf (s .layout) (replay (s .layout) v)) (sym q)))) e)

@@ -1,2 +1,3 @@
 -- What the code hands back, beside the model's results.
 pub mod Results
+pub mod Recovery

@@ -4,6 +4,7 @@
 -- Leaves v o r v′ st′    : a step on the volume v handed back r and left the volume v′ and the staging loan st′, as its result o says
 -- Fills out o r out′ st′ : a call that leaves the store to be made handed back r, and left out′ in the loan for the content, which held out, and the
 --                          staging loan st′, as its result o says
+-- LeavesBoth ..          : it left the volume, and its content in a loan, as both say
 -- Inside v a             : the sector that the answer a names, if any, lies in the volume v
 use Prim.Native.Nat.{ℕ, _+_, _*_, _≤_}
 use mathlib.Core.Bool.{Bool}
@@ -14,9 +15,9 @@ use Rattle.octets.specs.Answer.{Answer, taken, refused}
 use Rattle.octets.specs.Choice.{pick}
 use Rattle.octets.specs.Sectors.{sectorSize}
 use Rattle.model.specs.Refusal.{stepAnswer}
-use Rattle.model.specs.Flush.{inPhase}
+use Rattle.model.specs.State.{inPhase}
 use Rattle.model.specs.Store.{afterEffect, contentOf}
-use Rattle.model.specs.Step.{StepResult}
+use Rattle.model.specs.StepResult.{StepResult}
 use Rattle.model.specs.declared.Done.{Done}
 use Rattle.model.specs.declared.Done.the-variants.{Idle, Stored}
 use Rattle.model.specs.declared.Phase.the-variants as phases
@@ -43,6 +44,9 @@ pub record Fills (out : List ℕ) (o : StepResult) (r : Stepped) (out′ st′ :
   pub state : r .state ≡ o .state
   pub content : out′ ≡ contentOf out (o .effect)
   pub staging : st′ ≡ o .staging
+
+abbrev pub LeavesBoth : List ℕ → List ℕ → StepResult → Stepped → List ℕ → List ℕ → List ℕ → Type 0
+LeavesBoth v out o r v′ out′ st′ = Leaves v o r v′ st′ × (out′ ≡ contentOf out (o .effect))
 
 abbrev pub Inside : List ℕ → Answer ℕ (Done × Says) → Type 0
 Inside v (taken (Idle, x)) = Unit {0}

@@ -7,7 +7,7 @@ use model::State;
 use model::StepAnswer;
 use model::Stepped;
 ghost use mathlib.Core.Path.{_≡_};
-ghost use Rattle.model.specs.Flush.{inPhase};
+ghost use Rattle.model.specs.State.{inPhase};
 
 // The volume, staging and the state are as they were.
 pub(crate) fn refuse(s: State, r: Refusal) -> Stepped

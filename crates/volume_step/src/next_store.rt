@@ -12,7 +12,6 @@ use model::Says;
 use model::State;
 use model::StepAnswer;
 use model::Stepped;
-use section::HOME_STORES;
 use sound::state;
 ghost use mathlib.Core.Bool.{true, _&&_};
 ghost use mathlib.Core.List.{List};
@@ -20,15 +19,17 @@ ghost use mathlib.Core.Path.{_≡_};
 ghost use Prim.Native.Nat.{ℕ, _*_, _<_};
 ghost use lib.Dec.{leb};
 ghost use lib.ListN.{length};
-ghost use Rattle.model.specs.Layout.{sectionSize, needed, layoutOk};
+ghost use Rattle.model.specs.Layout.{needed};
 ghost use Rattle.model.specs.State.{lastId, volumeLoanOk, stateOk, volumeOk, stagingOk};
-ghost use Rattle.model.specs.Step.{commitStep, stepOf};
+ghost use Rattle.model.specs.Step.{stepOf};
+ghost use Rattle.model.specs.JournalStep.{commitStep};
 ghost use Rattle.model.specs.NextStore.{nextStoreOf};
+ghost use Rattle.stores.specs.Asked.{SectorOfCommit};
 ghost use Rattle.volume_step.specs.Results.{Fills};
 
 // Sector j of the section, with the id put in; by the last the batch is acknowledged.
 fn commit_step(s: State, st: &[u8], j: usize, out: &mut [u8]) -> Stepped
-    requires { ⌜ (layoutOk (s .layout) ≡ true) × (length (now st) ≡ sectionSize (s .layout .width) * 512) × (j < sectionSize (s .layout .width)) × (0 < s .id) × (s .id < lastId) × (length (now out) ≡ 512) ⌝ }
+    requires { ⌜ SectorOfCommit s (now st) j × (s .id < lastId) × (length (now out) ≡ 512) ⌝ }
     ensures { λ r. ⌜ ((v : List ℕ) → Fills (now (out .entry)) (commitStep s v (now (st .entry)) j) r (now (out .exit)) (now (st .entry))) ⌝ }
 {
     let g = s.layout;
@@ -59,7 +60,7 @@ fn write_back_step(s: State, v: &[u8], st: &mut [u8], i: usize, h: usize, out: &
         return answers::refuse(s, Refusal::StagedRange(i));
     }
     let at = stores::home_store(v, g, st, i, sector as usize, h, out);
-    if h + 1 < HOME_STORES {
+    if h + 1 < layout::home_stores(g, sector) {
         return answers::stored(s, at, Phase::WritingBack(i, h + 1));
     }
     if i + 1 < s.count {

@@ -14,17 +14,17 @@ use stores::changes::Part;
 ghost use mathlib.Core.Bool.{true};
 ghost use mathlib.Core.List.{List};
 ghost use mathlib.Core.Path.{_≡_};
-ghost use Prim.Native.Nat.{ℕ, _+_, _*_, _≤_, _<_};
-ghost use lib.Dec.{ltb};
+ghost use Prim.Native.Nat.{ℕ, _*_, _≤_, _<_};
 ghost use lib.ListN.{length};
 ghost use Rattle.model.specs.Layout.{entryCount, needed, layoutOk};
 ghost use Rattle.model.specs.Section.{entryOf};
-ghost use Rattle.model.specs.Journal.{sectionOf, replay};
-ghost use Rattle.model.specs.Store.{homeStore, storesOf};
-ghost use Rattle.model.specs.State.{stateOk, volumeOk, stagingOk};
-ghost use Rattle.model.specs.Step.{placeAt, stepOf};
-ghost use Rattle.section.specs.Locations.{Locates};
+ghost use Rattle.model.specs.Journal.{sectionOf};
+ghost use Rattle.model.specs.Store.{homeStore};
+ghost use Rattle.model.specs.State.{stagingOk};
+ghost use Rattle.model.specs.Step.{stepOf};
+ghost use Rattle.stores.specs.Asked.{StoreOfEntry};
 ghost use Rattle.stores.specs.Changes.{Changes};
+ghost use Rattle.volume_step.specs.Recovery.{StepOfRecovery};
 ghost use Rattle.volume_step.specs.Results.{recovered, Fills};
 
 // The logical sector of the entry that x names.
@@ -54,7 +54,7 @@ pub(crate) fn next_store(
     more: bool,
     out: &mut [u8],
 ) -> Stepped
-    requires { ⌜ (stateOk s ≡ true) × (volumeOk s (now v) ≡ true) × (s .phase ≡ Phase.Recovering k) × (more ≡ ltb (k + 1) (storesOf (s .layout) (replay (s .layout) (now v)))) × Locates (s .layout) (sectionOf (s .layout) (now v) (x .section)) x (placeAt (s .layout) (now v) k) × (x .section < s .layout .sections) × (length (now out) ≡ 512) ⌝ }
+    requires { ⌜ StepOfRecovery s (now v) k x more × (length (now out) ≡ 512) ⌝ }
     ensures { λ r. ⌜ ((st : List ℕ) → stagingOk (s .layout) st ≡ true → Fills (now (out .entry)) (stepOf s (now (v .entry)) st) r (now (out .exit)) st) ⌝ }
 {
     let g = s.layout;
@@ -76,7 +76,7 @@ pub fn replayed_part(
     sector: usize,
     content: &mut [u8; SECTOR_SIZE],
 ) -> Part
-    requires { ⌜ (layoutOk g ≡ true) × (needed g * 512 ≤ length (now v)) × (x .section < g .sections) × (x .entry < entryCount (g .width)) × (sector ≡ entryOf (g .width) (sectionOf g (now v) (x .section)) (x .entry) .sector) × (sector < g .provided) × (x .store < 2) ⌝ }
+    requires { ⌜ StoreOfEntry g (sectionOf g (now v) (x .section)) (x .entry) sector (x .store) × (needed g * 512 ≤ length (now v)) × (x .section < g .sections) ⌝ }
     ensures { λ r. ⌜ Changes (now (v .entry)) (homeStore g (now (v .entry)) (entryOf (g .width) (sectionOf g (now (v .entry)) (x .section)) (x .entry)) (x .store)) r (now (content .exit)) ⌝ }
 {
     let section = sections::section_of(v, g, x.section);

@@ -4,10 +4,8 @@ use crate::store;
 use layout::SECTOR_SIZE;
 use model::State;
 use model::Stepped;
-ghost use mathlib.Core.Path.{_≡_};
-ghost use Rattle.model.specs.Store.{contentOf};
 ghost use Rattle.model.specs.Step.{stepOf};
-ghost use Rattle.volume_step.specs.Results.{Leaves};
+ghost use Rattle.volume_step.specs.Results.{Leaves, LeavesBoth};
 
 // Makes one sector store, or none when filling.
 pub fn step(s: State, v: &mut [u8], st: &mut [u8]) -> Stepped
@@ -24,7 +22,7 @@ pub fn step_through(
     st: &mut [u8],
     content: &mut [u8; SECTOR_SIZE],
 ) -> Stepped
-    ensures { λ r. ⌜ Leaves (now (v .entry)) (stepOf s (now (v .entry)) (now (st .entry))) r (now (v .exit)) (now (st .exit)) × (now (content .exit) ≡ contentOf (now (content .entry)) (stepOf s (now (v .entry)) (now (st .entry)) .effect)) ⌝ }
+    ensures { λ r. ⌜ LeavesBoth (now (v .entry)) (now (content .entry)) (stepOf s (now (v .entry)) (now (st .entry))) r (now (v .exit)) (now (content .exit)) (now (st .exit)) ⌝ }
 {
     let stepped = next_store::next_store(s, v, st, content);
     let answer = stepped.answer;

@@ -5,11 +5,10 @@ use lib.ListN.{length}
 use Rattle.drill.proofs.event_off.Statement.{statement}
 use Rattle.drill.proofs.event_off.Tie as tie
 
--- src/lib.rt:142:9
 returns : tie.Need-returns
 returns c =
-    let a = c .before .before .before .before .before .before .before .before .before .args in
-    opens (a .r) (length (a .st .now)) (a .kind) (a .sector) (a .fill) (a .v .now) (a .st .now) _ refl (c .before .before .before .before .open-filled .result) (c .before .before .before .before .open-filled .ensures) (c .before .live-after .result) (c .nothing-to-come .result) (c .before .live-after .ensures) (c .nothing-to-come .ensures) (c .before .before .before .before .before .before .if1 .taken)
+    let a = c .before .before .before .before .before .before .before .before .args in
+    opens (a .r) (length (a .st .now)) (a .kind) (a .sector) (a .fill) (a .v .now) (a .st .now) _ refl (c .before .before .before .open-filled .result) (c .before .before .before .open-filled .ensures) (c .after-open .result) (c .after-open .ensures) (c .before .before .before .before .before .if1 .taken)
 
 -- src/lib.rt:149:9
 returns-2 : tie.Need-returns-2
@@ -27,7 +26,6 @@ pub event-off-spec : {M : Type 1} → statement M
 event-off-spec =
     tie.close
     (tie.spec
-    (λ c κs. search needs)
     (λ c κs. search needs)
     (λ c κs. search needs)
     (λ c. search needs)

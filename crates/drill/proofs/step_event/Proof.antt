@@ -1,5 +1,4 @@
 use borrow.Author.Needs.{needs}
-use Rattle.model.specs.Step.{stepOf}
 use Rattle.drill.proofs.Turns.{stepped}
 use Rattle.drill.proofs.step_event.Statement.{statement}
 use Rattle.drill.proofs.step_event.Tie as tie
@@ -8,7 +7,7 @@ use Rattle.drill.proofs.step_event.Tie as tie
 returns : tie.Need-returns
 returns c =
     let a = c .before .before .before .before .before .before .before .before .before .before .before .args in
-    stepped (a .v .now) _ _ (stepOf (a .s) (a .v .now) (a .st .now)) (c .before .before .before .before .before .before .step .result) (c .says-filling .result) (c .before .before .before .before .before .before .step .ensures) (c .says-filling .ensures)
+    stepped (a .v .now) (a .st .now) _ _ (a .s) (c .before .before .before .before .before .before .step .result) (c .says-filling .result) (c .before .before .before .before .before .before .step .ensures) (c .says-filling .ensures)
 
 pub step-event-spec : {M : Type 1} → statement M
 step-event-spec =

@@ -5,7 +5,8 @@ use native.Mathlib.Omega.{arith}
 use lib.Seq.{take-all}
 use lib.ListN.{length, take}
 use borrow.Author.Needs.{needs}
-use Rattle.model.specs.Section.{collect, emptySector, emptySection}
+use Rattle.model.specs.Section.{emptySector, emptySection}
+use Rattle.octets.specs.Lists.{collect}
 use Rattle.model.specs.Layout.{sectionSize}
 use Rattle.section.proofs.Clearing.{clear-metadata, clear-data}
 use Rattle.section.proofs.clear_section.Statement.{statement}

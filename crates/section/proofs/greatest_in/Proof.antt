@@ -5,7 +5,8 @@ use native.Mathlib.Omega.{arith}
 use lib.ListN.{length}
 use borrow.Author.Needs.{needs}
 use Rattle.octets.specs.Sectors.{sectorAt}
-use Rattle.model.specs.Section.{idOf, greatest, greatestIn}
+use Rattle.model.specs.Section.{idOf, greatestIn}
+use Rattle.octets.specs.Lists.{greatest}
 use Rattle.model.specs.Layout.{sectionSize}
 use Rattle.section.proofs.Ids.{greatest-more}
 use Rattle.section.proofs.greatest_in.Statement.{statement}

@@ -5,6 +5,7 @@ use native.Mathlib.Omega.{arith}
 use lib.ListN.{length}
 use borrow.Author.Needs.{needs}
 use Rattle.model.specs.Layout.{entryCount}
+use Rattle.model.specs.Section.{entryOf}
 use Rattle.section.specs.Locations.{storesBelow, storeNumber, missing, found}
 use Rattle.layout.proofs.Sizes.{width-high}
 use Rattle.section.proofs.Counts.{count-used, count-unused, locates}
@@ -33,10 +34,14 @@ entry-sector-requires c κs =
 
 returns : tie.Need-returns Inv-loop μ-loop
 returns c =
-    let turn = c .before .before .before .before .loop in
-    let start = c .before .before .before .before .before .before .before in
-    let here = locates (start .args .g) (start .args .section .now) (record { section = start .args .from .section; entry = turn .i; store = turn .left }) (omega arith)
-    (λ q. c .before .if1 .taken (c .before .before .entry-sector .ensures ∙ q)) (omega arith) in
+    let turn = c .before .before .before .before .before .loop in
+    let start = c .before .before .before .before .before .before .before .before in
+    let g = start .args .g in
+    let section = start .args .section .now in
+    let sector = c .before .before .before .entry-sector .ensures in
+    let home = c .before .home-stores .ensures .0 (entryOf (g .width) section (turn .i)) (sym sector) in
+    let here = locates g section (record { section = start .args .from .section; entry = turn .i; store = turn .left }) (omega arith)
+    (λ q. c .before .before .if1 .taken (sector ∙ q)) (omega (arith, home, c .if2 .taken)) in
     (found here (turn .inv .3), refl)
 
 loop-again : tie.Need-loop-again Inv-loop μ-loop
@@ -50,7 +55,7 @@ loop-again c =
       omega arith,
       omega arith,
       omega arith,
-      omega (arith, w .1 .left, w .2, turn .inv .3, count-used g (start .args .from .section) section (turn .i) (λ q. w .0 .taken (c .before .entry-sector .ensures ∙ q))),
+      omega (arith, w .1 .ensures .0 (entryOf (g .width) section (turn .i)) (sym (c .before .entry-sector .ensures)), w .2 .left, w .3, turn .inv .3, count-used g (start .args .from .section) section (turn .i) (λ q. w .0 .taken (c .before .entry-sector .ensures ∙ q))),
     ))
     (λ w. (
       omega arith,
@@ -78,6 +83,7 @@ location-in-spec =
     entry-count-requires
     loop-holds
     entry-sector-requires
+    (λ c κs. search needs)
     returns
     (λ c. search needs)
     (λ c. search needs)

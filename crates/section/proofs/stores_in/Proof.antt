@@ -5,6 +5,8 @@ use native.Mathlib.Omega.{arith}
 use lib.ListN.{length}
 use borrow.Author.Needs.{needs}
 use Rattle.model.specs.Layout.{entryCount}
+use Rattle.model.specs.Section.{entryOf}
+use Rattle.model.specs.Store.{mostHomeStores}
 use Rattle.section.specs.Locations.{storesBelow}
 use Rattle.layout.proofs.Sizes.{width-high}
 use Rattle.section.proofs.Counts.{count-used, count-unused}
@@ -12,7 +14,7 @@ use Rattle.section.proofs.stores_in.Statement.{statement}
 use Rattle.section.proofs.stores_in.Tie as tie
 
 abbrev Inv-loop : tie.InvT-loop
-Inv-loop g section count stores₀ i₀ stores i = (count ≡ entryCount (g .width)) × (count ≤ 248) × (i ≤ count) × (stores ≤ 2 * i) × ((k : ℕ) → stores ≡ length (storesBelow g k section i))
+Inv-loop g section count stores₀ i₀ stores i = (count ≡ entryCount (g .width)) × (count ≤ 248) × (i ≤ count) × (stores ≤ mostHomeStores * i) × ((k : ℕ) → stores ≡ length (storesBelow g k section i))
 
 abbrev μ-loop : tie.MeasureT-loop
 μ-loop g section count stores₀ i₀ stores i = count - i
@@ -42,8 +44,14 @@ loop-again c =
       omega arith,
       omega arith,
       omega arith,
-      omega arith,
-      λ k. omega (arith, w .1, turn .inv .4 k, count-used g k section i (λ q. w .0 .taken (c .before .entry-sector .ensures ∙ q))),
+      omega (arith, w .1 .ensures .2, w .2, turn .inv .3),
+      λ k. omega (
+        arith,
+        w .1 .ensures .0 (entryOf (g .width) section i) (sym (c .before .entry-sector .ensures)),
+        w .2,
+        turn .inv .4 k,
+        count-used g k section i (λ q. w .0 .taken (c .before .entry-sector .ensures ∙ q)),
+      ),
     ))
     (λ w. (
       omega arith,
@@ -71,6 +79,7 @@ stores-in-spec =
     entry-count-requires
     loop-holds
     entry-sector-requires
+    (λ c κs. search needs)
     (λ c. search needs)
     (λ c. search needs)
     (λ c. search needs)

@@ -17,7 +17,7 @@ returns c =
     λ v i. record {
       at = ap (λ (x : ℕ). x + j) (c .section-at .ensures .0 ∙ ap (sectionAt (s .layout)) (c .before .section-for .ensures .0)) i;
       content =
-          sector-sealed (s .layout) (start .args .st .now) (start .args .out .now) j (s .id) (omega (arith, start .pre .1, start .pre .2)) (start .pre .4)
+          sector-sealed (s .layout) (start .args .st .now) (start .args .out .now) j (s .id) (omega (arith, start .pre .0 .long, start .pre .0 .sector)) (start .pre .1)
           (copy-at .last .0) (put-number .last .0) (copy-at .ensures) (put-number .ensures) i;
     }
 

@@ -13,8 +13,8 @@ returns c =
     let start = c .before .before .before .before in
     volume-unfit (start .args .s) (start .args .v .now) (sym (c .before .layout-fits .ensures) ∙ not-true _ (c .if1 .taken))
 
-replay-stores-requires : tie.Need-replay-stores-requires
-replay-stores-requires c κs =
+recovery-steps-requires : tie.Need-recovery-steps-requires
+recovery-steps-requires c κs =
     let start = c .before .before .before .before .before .before .before in
     let s = start .args .s in
     (state-layout s (start .pre), fit-room s (start .args .v .now) (sym (c .before .before .before .before .layout-fits .ensures) ∙ not-false _ (c .before .before .before .if1 .left)))
@@ -37,7 +37,7 @@ returns-4 c =
 returns-5 : tie.Need-returns-5
 returns-5 c =
     let start = c .before .before .before .before .before .before .before .before in
-    volume-fit (start .args .s) (start .args .v .now) _ (sym (c .before .before .before .before .before .layout-fits .ensures) ∙ not-false _ (c .before .before .before .before .if1 .left)) (rw (c .before .before .p .given .1, c .replay-stores .ensures))
+    volume-fit (start .args .s) (start .args .v .now) _ (sym (c .before .before .before .before .before .layout-fits .ensures) ∙ not-false _ (c .before .before .before .before .if1 .left)) (rw (c .before .before .p .given .1, c .recovery-steps .ensures))
 
 pub volume-ok-spec : {M : Type 1} → statement M
 volume-ok-spec =
@@ -49,7 +49,7 @@ volume-ok-spec =
     (λ c. search needs)
     (λ c. search needs)
     (λ c. search needs)
-    replay-stores-requires
+    recovery-steps-requires
     returns-2
     returns-3
     returns-4

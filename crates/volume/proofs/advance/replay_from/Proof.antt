@@ -5,7 +5,7 @@ use lib.ListN.{length}
 use borrow.Author.Needs.{needs}
 use Rattle.model.specs.declared.Advanced.{Advanced}
 use Rattle.model.proofs.States.{state-layout, fit-room}
-use Rattle.volume.proofs.Advancing.{Underway, begins, ok-here, continues, is-next, there, low, half, again, nothing-made, steps-made}
+use Rattle.volume.proofs.Advancing.{Underway, begins, ok-here, continues, is-next, there, low, entry-here, again, nothing-made, steps-made}
 use Rattle.volume.proofs.advance.replay_from.Statement.{statement}
 use Rattle.volume.proofs.advance.replay_from.Tie as tie
 
@@ -37,7 +37,7 @@ replayed-part-requires : tie.Need-replayed-part-requires Inv-loop μ-loop
 replayed-part-requires c κs =
     let u = c .before .before .before .before .before .before .before .before .before .loop .inv .3 in
     let l = is-next u (c .before .before .before .before .before .if1 .left) in
-    (ok-here u .0, ok-here u .1, l, there u l .1 .entry, c .before .before .before .sector-of .ensures, c .before .before .if2 .left, half u l)
+    (entry-here u l (c .before .before .before .sector-of .result) (c .before .before .before .sector-of .ensures) (c .before .before .if2 .left), ok-here u .1, l)
 
 next-location-requires : tie.Need-next-location-requires Inv-loop μ-loop
 next-location-requires c κs =

@@ -7,14 +7,14 @@ use borrow.Author.Needs.{needs}
 use Rattle.volume_format.proofs.Formats.{chunk-fits, patch-nil, chunk-turn, run-size}
 use Rattle.model.specs.Format.{freshRun}
 use Rattle.model.specs.Tag.{tagOf}
-use Rattle.model.specs.Section.{collect}
-use Rattle.model.specs.Layout.{runLength, tagArea, layoutOk}
+use Rattle.octets.specs.Lists.{collect}
+use Rattle.model.specs.Layout.{mostProvided, runLength, tagArea, layoutOk}
 use Rattle.octets.specs.Parts.{patch}
 use Rattle.volume_format.proofs.format.put_runs.Statement.{statement}
 use Rattle.volume_format.proofs.format.put_runs.Tie as tie
 
 abbrev Inv-loop : tie.InvT-loop
-Inv-loop v₀ g n at sectors size q₀ v q = (q ≤ n) × (layoutOk g ≡ true) × (n ≤ 65536) × (sectors ≡ runLength g) × (size ≡ (tagArea g + runLength g) * 512) × (at + n * size ≤ length v₀) × (length v ≡ length v₀) × (v ≡ patch v₀ at (collect q (λ r. freshRun (tagOf (g .width)) g r (runLength g))))
+Inv-loop v₀ g n at sectors size q₀ v q = (q ≤ n) × (layoutOk g ≡ true) × (n ≤ mostProvided) × (sectors ≡ runLength g) × (size ≡ (tagArea g + runLength g) * 512) × (at + n * size ≤ length v₀) × (length v ≡ length v₀) × (v ≡ patch v₀ at (collect q (λ r. freshRun (tagOf (g .width)) g r (runLength g))))
 
 abbrev μ-loop : tie.MeasureT-loop
 μ-loop v₀ g n at sectors size q₀ v q = n - q

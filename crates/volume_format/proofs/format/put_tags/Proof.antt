@@ -5,7 +5,7 @@ use lib.ListN.{replicate, length, take}
 use borrow.Author.Needs.{needs}
 use Rattle.model.specs.Format.{zeros}
 use Rattle.model.specs.Tag.{tagOf}
-use Rattle.model.specs.Section.{collect}
+use Rattle.octets.specs.Lists.{collect}
 use Rattle.octets.specs.Sectors.{sectorSize}
 use Rattle.octets.specs.Parts.{part, patch}
 use Rattle.volume_format.proofs.Formats.{chunk-fits, patch-nil, chunk-turn, tag-size}

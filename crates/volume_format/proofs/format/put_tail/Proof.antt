@@ -5,7 +5,7 @@ use borrow.Author.Needs.{needs}
 use Rattle.model.specs.Layout.{runLength}
 use Rattle.model.specs.Format.{freshRun, lastRun}
 use Rattle.model.specs.Tag.{tagOf}
-use Rattle.model.specs.Section.{collect}
+use Rattle.octets.specs.Lists.{collect}
 use Rattle.octets.specs.Parts.{patch}
 use Rattle.layout.proofs.Sizes.{provided-low, run-high}
 use Rattle.volume_format.proofs.Formats.{last-short, last-low, runs-fit, last-is, length-is, offset-is, tail-stored}

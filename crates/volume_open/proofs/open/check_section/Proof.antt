@@ -5,7 +5,8 @@ use native.Mathlib.Omega.{arith}
 use borrow.Author.Needs.{needs}
 use Rattle.layout.proofs.Sizes.{width-high}
 use Rattle.model.specs.Layout.{entryCount}
-use Rattle.model.specs.Section.{entryOf, collect}
+use Rattle.model.specs.Section.{entryOf}
+use Rattle.octets.specs.Lists.{collect}
 use Rattle.model.specs.Journal.{Replayed, usedEntry}
 use Rattle.model.specs.State.{passed}
 use Rattle.model.specs.Tag.{tagOf}

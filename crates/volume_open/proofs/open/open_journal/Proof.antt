@@ -46,8 +46,8 @@ clear-section-requires c κs =
     let a = c .before .before .before .before .before .before .before .before .before .before .before .before .before .before .before .before .before .args in
     (width-high (a .g) (c .before .before .before .before .before .before .before .before .before .before .before .before .before .before .before .before .before .pre .0), staging-length (a .g) (a .st .now) (sym (c .before .before .before .before .before .before .before .before .before .before .before .before .before .staging-ok .ensures) ∙ not-false _ (c .before .before .before .before .before .before .before .before .before .before .before .before .if1 .left)))
 
-count-stores-requires : tie.Need-count-stores-requires
-count-stores-requires c κs = (c .before .before .before .before .before .before .before .before .before .before .before .before .before .before .before .before .before .before .before .before .before .pre .0, c .before .before .before .before .before .before .before .before .before .before .before .before .before .before .before .before .before .before .before .before .before .pre .1, c .before .before .before .before .before .before .before .before .before .before .before .before .before .scan .ensures)
+count-steps-requires : tie.Need-count-steps-requires
+count-steps-requires c κs = (c .before .before .before .before .before .before .before .before .before .before .before .before .before .before .before .before .before .before .before .before .before .pre .0, c .before .before .before .before .before .before .before .before .before .before .before .before .before .before .before .before .before .before .before .before .before .pre .1, c .before .before .before .before .before .before .before .before .before .before .before .before .before .scan .ensures)
 
 returns-5 : tie.Need-returns-5
 returns-5 c =
@@ -57,7 +57,7 @@ returns-5 c =
     (c .before .before .before .before .before .before .before .before .before .before .before .before .before .first-misplaced .result) (c .before .before .before .before .before .before .before .before .before .before .before .before .before .first-misplaced .ensures ∙ misplaced-first (a .g) (a .v .now) (c .before .before .before .before .before .before .before .before .before .before .before .before .before .before .before .before .before .before .before .before .before .before .before .pre .0) _ (c .before .before .before .before .before .before .before .before .before .before .before .before .before .before .before .scan .ensures)) (sections-low (a .g) (c .before .before .before .before .before .before .before .before .before .before .before .before .before .before .before .before .before .before .before .before .before .before .before .pre .0)) (c .before .before .before .before .before .before .before .before .before .before .before .if3 .left)
     (c .before .before .before .before .before .before .before .before .before .check-replay .result) (c .before .before .before .before .before .before .before .before .before .check-replay .ensures) (c .before .before .before .before .before .before .before .enum-told .given .1)
     (c .before .before .before .before .before .clear-section .last .0) (c .before .before .before .before .before .clear-section .ensures)
-    (c .before .count-stores .result) (c .before .count-stores .ensures) (c .phase-for .result) (c .phase-for .ensures)
+    (c .before .count-steps .result) (c .before .count-steps .ensures) (c .phase-for .result) (c .phase-for .ensures)
 
 pub open-journal-spec : {M : Type 1} → statement M
 open-journal-spec =
@@ -79,7 +79,7 @@ open-journal-spec =
     (λ c. search needs)
     returns-4
     clear-section-requires
-    count-stores-requires
+    count-steps-requires
     (λ c κs. search needs)
     (λ c. search needs)
     (λ c. search needs)

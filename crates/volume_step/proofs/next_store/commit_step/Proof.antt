@@ -7,7 +7,7 @@ use Rattle.volume_step.proofs.next_store.commit_step.Tie as tie
 section-size-requires : tie.Need-section-size-requires
 section-size-requires c κs =
     let start = c .before .before .before .before .before .before .before in
-    width-high (start .args .s .layout) (start .pre .0)
+    width-high (start .args .s .layout) (start .pre .0 .layout)
 
 returns : tie.Need-returns
 returns c =

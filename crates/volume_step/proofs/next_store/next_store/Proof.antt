@@ -48,7 +48,7 @@ commit-step-requires c κs =
     let staging = sym (c .before .before .before .before .before .before .staging-ok .ensures) ∙ not-false _ (c .before .before .before .before .before .if4 .left) in
     let s = start .args .s in
     let place = state-committing s sound _ (c .before .before .before .p .given .1) in
-    (state-layout s sound, staging-length (s .layout) (start .args .st .now) staging, place .0, state-id s sound, place .1, omega (arith, c .before .before .before .before .before .before .before .before .before .before .before .before .before .if1 .left))
+    (record { layout = state-layout s sound; long = staging-length (s .layout) (start .args .st .now) staging; sector = place .0; id = state-id s sound }, place .1, omega (arith, c .before .before .before .before .before .before .before .before .before .before .before .before .before .if1 .left))
 
 write-back-step-requires : tie.Need-write-back-step-requires
 write-back-step-requires c κs =

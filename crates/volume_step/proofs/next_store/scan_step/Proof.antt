@@ -1,5 +1,7 @@
+use Prim.Native.Nat.{_+_}
 use mathlib.Core.Path.{refl}
-use Rattle.journal.proofs.Walks.{located, located-low, located-past, is-there}
+use Rattle.journal.proofs.Walks.{located-low}
+use Rattle.journal.proofs.Recovery.{step-located, step-past, step-there}
 use Rattle.model.proofs.States.{state-layout, fit-room, volume-below, volume-past}
 use Rattle.volume_step.proofs.Steps.{wrong-volume}
 use borrow.Author.Needs.{needs}
@@ -22,7 +24,7 @@ returns c =
     let s = start .args .s in
     let v = start .args .v .now in
     let k = start .args .k in
-    let past = located-past (s .layout) v (state-layout s (start .pre .0)) k (c .before .before .before .before .locate .result) (c .before .before .before .before .locate .ensures) (c .before .if1 .taken) in
+    let past = step-past (s .layout) v (state-layout s (start .pre .0)) k (c .before .before .before .before .locate .result) (c .before .before .before .before .locate .ensures) (c .before .if1 .taken) in
     λ st staging. wrong-volume s v st (start .args .out .now) (c .refuse .result) (c .refuse .ensures) (start .pre .0) (volume-past s v (start .pre .1) k (start .pre .2) past)
 
 next-location-requires : tie.Need-next-location-requires
@@ -44,8 +46,18 @@ next-store-requires c κs =
     let x = c .before .before .before .before .before .before .before .before .locate .result in
     let ok = state-layout s (start .pre .0) in
     let low = located-low (s .layout) v ok k x (c .before .before .before .before .before .before .before .before .locate .ensures) (c .before .before .before .before .before .if1 .left) in
-    let there = located (s .layout) v ok k x (c .before .before .before .before .before .before .before .before .locate .ensures) low in
-    (start .pre .0, volume-below s v (start .pre .1) k (start .pre .2) (there .0), start .pre .2, is-there (s .layout) v ok _ (c .before .before .before .next-location .result) (c .before .before .before .next-location .ensures k (c .before .before .before .before .before .before .before .before .locate .ensures)), there .1, low, start .pre .3)
+    let there = step-located (s .layout) v ok k x (c .before .before .before .before .before .before .before .before .locate .ensures) low in
+    let next = c .before .before .before .next-location in (
+      record {
+        sound = start .pre .0;
+        fits = volume-below s v (start .pre .1) k (start .pre .2) (there .0);
+        phase = start .pre .2;
+        goes-on = step-there (s .layout) v ok (k + 1) (next .result) (next .ensures k (c .before .before .before .before .before .before .before .before .locate .ensures));
+        named = there .1;
+        section = low;
+      },
+      start .pre .3,
+    )
 
 pub scan-step-spec : {M : Type 1} → statement M
 scan-step-spec =

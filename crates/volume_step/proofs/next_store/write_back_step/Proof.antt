@@ -1,4 +1,7 @@
+use mathlib.Core.Path.{sym}
 use native.Mathlib.Omega.{arith}
+use Rattle.model.specs.Section.{entryOf}
+use Rattle.model.proofs.Plans.{home-all}
 use Rattle.layout.proofs.Sizes.{width-high}
 use Rattle.model.proofs.States.{state-layout, state-writing-back, staging-length, volume-room}
 use Rattle.volume_step.proofs.Steps.{staged-range, same-entry, next-entry, last-entry}
@@ -8,66 +11,75 @@ use Rattle.volume_step.proofs.next_store.write_back_step.Tie as tie
 
 entry-sector-requires : tie.Need-entry-sector-requires
 entry-sector-requires c κs =
-    let start = c .before .before .before .before .before in
-    let s = start .args .s in
-    (width-high (s .layout) (state-layout s (start .pre .0)), state-writing-back s (start .pre .0) (start .args .i) (start .args .h) (start .pre .3) .1, staging-length (s .layout) (start .args .st .now) (start .pre .2))
+    let args = c .before .before .before .before .before .args in
+    let pre = c .before .before .before .before .before .pre in
+    let s = args .s in
+    (width-high (s .layout) (state-layout s (pre .0)), state-writing-back s (pre .0) (args .i) (args .h) (pre .3) .1, staging-length (s .layout) (args .st .now) (pre .2))
 
 returns : tie.Need-returns
 returns c =
-    let start = c .before .before .before .before .before .before .before .before in
-    let entry-sector = c .before .before .entry-sector in
-    staged-range (start .args .s) (start .args .v .now) (start .args .st .now) (start .args .out .now) (start .pre .0) (start .pre .1) (start .pre .2) (start .args .i) (start .args .h) (start .pre .3) (entry-sector .result) (entry-sector .ensures) (c .refuse .result) (c .refuse .ensures) (c .before .if1 .taken)
+    let args = c .before .before .before .before .before .before .before .before .args in
+    let pre = c .before .before .before .before .before .before .before .before .pre in
+    staged-range (args .s) (args .v .now) (args .st .now) (args .out .now) (pre .0) (pre .1) (pre .2) (args .i) (args .h) (pre .3) (c .before .before .entry-sector .result) (c .before .before .entry-sector .ensures) (c .refuse .result) (c .refuse .ensures) (c .before .if1 .taken)
 
 home-store-requires : tie.Need-home-store-requires
 home-store-requires c κs =
-    let start = c .before .before .before .before .before .before .before .before .before in
-    let s = start .args .s in
-    let place = state-writing-back s (start .pre .0) (start .args .i) (start .args .h) (start .pre .3) in
-    (state-layout s (start .pre .0), volume-room s (start .args .v .now) (start .pre .1), staging-length (s .layout) (start .args .st .now) (start .pre .2), place .1, c .before .before .before .entry-sector .ensures, c .before .before .if1 .left, place .2, start .pre .4)
+    let args = c .before .before .before .before .before .before .before .before .before .args in
+    let pre = c .before .before .before .before .before .before .before .before .before .pre in
+    let s = args .s in
+    let place = state-writing-back s (pre .0) (args .i) (args .h) (pre .3) in (
+      record {
+        layout = state-layout s (pre .0);
+        long = staging-length (s .layout) (args .st .now) (pre .2);
+        entry = place .1;
+        is = c .before .before .before .entry-sector .ensures;
+        low = c .before .before .if1 .left;
+        store = home-all (s .layout) (entryOf (s .layout .width) (args .st .now) (args .i)) (args .h) (place .2);
+      },
+      volume-room s (args .v .now) (pre .1),
+      pre .4,
+    )
 
 add-if2 : tie.Need-add-if2
-add-if2 c =
-    let start = c .before .before .before .before .before .before .before .before .before .before .before .before in
-    omega (arith, state-writing-back (start .args .s) (start .pre .0) (start .args .i) (start .args .h) (start .pre .3) .2)
+add-if2 c = omega (arith, state-writing-back (c .before .before .before .before .before .before .before .before .before .before .before .before .args .s) (c .before .before .before .before .before .before .before .before .before .before .before .before .pre .0) (c .before .before .before .before .before .before .before .before .before .before .before .before .args .i) (c .before .before .before .before .before .before .before .before .before .before .before .before .args .h) (c .before .before .before .before .before .before .before .before .before .before .before .before .pre .3) .2)
 
 returns-2 : tie.Need-returns-2
 returns-2 c =
-    let start = c .before .before .before .before .before .before .before .before .before .before .before .before .before .before in
-    let entry-sector = c .before .before .before .before .before .before .before .before .entry-sector in
-    let home-store = c .before .before .before .before .home-store in
-    same-entry (start .args .s) (start .args .v .now) (start .args .st .now) (start .args .out .now) (start .pre .0) (start .pre .1) (start .pre .2) (start .args .i) (start .args .h) (start .pre .3) (entry-sector .result) (entry-sector .ensures) (c .before .before .before .before .before .before .before .if1 .left)
-    (home-store .result) _ (home-store .ensures) (c .stored .result) (c .stored .ensures) (c .before .if2 .taken)
+    let args = c .before .before .before .before .before .before .before .before .before .before .before .before .before .before .before .args in
+    let pre = c .before .before .before .before .before .before .before .before .before .before .before .before .before .before .before .pre in
+    let home = c .before .before .home-stores .ensures .0 (entryOf (args .s .layout .width) (args .st .now) (args .i)) (sym (c .before .before .before .before .before .before .before .before .before .entry-sector .ensures)) in
+    same-entry (args .s) (args .v .now) (args .st .now) (args .out .now) (pre .0) (pre .1) (pre .2) (args .i) (args .h) (pre .3) (c .before .before .before .before .before .before .before .before .before .entry-sector .result) (c .before .before .before .before .before .before .before .before .before .entry-sector .ensures) (c .before .before .before .before .before .before .before .before .if1 .left)
+    (c .before .before .before .before .before .home-store .result) _ (c .before .before .before .before .before .home-store .ensures) (c .stored .result) (c .stored .ensures) (omega (arith, home, c .before .if2 .taken))
 
 add-if3 : tie.Need-add-if3
-add-if3 c =
-    let start = c .before .before .before .before .before .before .before .before .before .before .before .before .before in
-    omega (arith, state-writing-back (start .args .s) (start .pre .0) (start .args .i) (start .args .h) (start .pre .3) .0)
+add-if3 c = omega (arith, state-writing-back (c .before .before .before .before .before .before .before .before .before .before .before .before .before .before .args .s) (c .before .before .before .before .before .before .before .before .before .before .before .before .before .before .pre .0) (c .before .before .before .before .before .before .before .before .before .before .before .before .before .before .args .i) (c .before .before .before .before .before .before .before .before .before .before .before .before .before .before .args .h) (c .before .before .before .before .before .before .before .before .before .before .before .before .before .before .pre .3) .0)
 
 returns-3 : tie.Need-returns-3
 returns-3 c =
-    let start = c .before .before .before .before .before .before .before .before .before .before .before .before .before .before .before .before in
-    let entry-sector = c .before .before .before .before .before .before .before .before .before .before .entry-sector in
-    let home-store = c .before .before .before .before .before .before .home-store in
-    next-entry (start .args .s) (start .args .v .now) (start .args .st .now) (start .args .out .now) (start .pre .0) (start .pre .1) (start .pre .2) (start .args .i) (start .args .h) (start .pre .3) (entry-sector .result) (entry-sector .ensures) (c .before .before .before .before .before .before .before .before .before .if1 .left)
-    (home-store .result) _ (home-store .ensures) (c .stored2 .result) (c .stored2 .ensures)
-    (omega (arith, c .before .before .before .if2 .left, state-writing-back (start .args .s) (start .pre .0) (start .args .i) (start .args .h) (start .pre .3) .2)) (c .before .if3 .taken)
+    let args = c .before .before .before .before .before .before .before .before .before .before .before .before .before .before .before .before .before .args in
+    let pre = c .before .before .before .before .before .before .before .before .before .before .before .before .before .before .before .before .before .pre in
+    let e = entryOf (args .s .layout .width) (args .st .now) (args .i) in
+    let home = c .before .before .before .before .home-stores .ensures .0 e (sym (c .before .before .before .before .before .before .before .before .before .before .before .entry-sector .ensures)) in
+    let place = state-writing-back (args .s) (pre .0) (args .i) (args .h) (pre .3) in
+    next-entry (args .s) (args .v .now) (args .st .now) (args .out .now) (pre .0) (pre .1) (pre .2) (args .i) (args .h) (pre .3) (c .before .before .before .before .before .before .before .before .before .before .before .entry-sector .result) (c .before .before .before .before .before .before .before .before .before .before .before .entry-sector .ensures) (c .before .before .before .before .before .before .before .before .before .before .if1 .left)
+    (c .before .before .before .before .before .before .before .home-store .result) _ (c .before .before .before .before .before .before .before .home-store .ensures) (c .stored2 .result) (c .stored2 .ensures)
+    (omega (arith, home, c .before .before .before .if2 .left, home-all (args .s .layout) e (args .h) (place .2))) (c .before .if3 .taken)
 
 clear-section-requires : tie.Need-clear-section-requires
 clear-section-requires c κs =
-    let start = c .before .before .before .before .before .before .before .before .before .before .before .before .before .before .before .before in
-    let s = start .args .s in
-    (width-high (s .layout) (state-layout s (start .pre .0)), staging-length (s .layout) (start .args .st .now) (start .pre .2))
+    let s = c .before .before .before .before .before .before .before .before .before .before .before .before .before .before .before .before .before .args .s in
+    (width-high (s .layout) (state-layout s (c .before .before .before .before .before .before .before .before .before .before .before .before .before .before .before .before .before .pre .0)), staging-length (s .layout) (c .before .before .before .before .before .before .before .before .before .before .before .before .before .before .before .before .before .args .st .now) (c .before .before .before .before .before .before .before .before .before .before .before .before .before .before .before .before .before .pre .2))
 
 returns-4 : tie.Need-returns-4
 returns-4 c =
-    let start = c .before .before .before .before .before .before .before .before .before .before .before .before .before .before .before .before .before .before .before .before in
-    let entry-sector = c .before .before .before .before .before .before .before .before .before .before .before .before .before .before .entry-sector in
-    let home-store = c .before .before .before .before .before .before .before .before .before .before .home-store in
-    let clear-section = c .before .before .before .clear-section in
-    let place = state-writing-back (start .args .s) (start .pre .0) (start .args .i) (start .args .h) (start .pre .3) in
-    last-entry (start .args .s) (start .args .v .now) (start .args .st .now) (start .args .out .now) (start .pre .0) (start .pre .1) (start .pre .2) (start .args .i) (start .args .h) (start .pre .3) (entry-sector .result) (entry-sector .ensures) (c .before .before .before .before .before .before .before .before .before .before .before .before .before .if1 .left)
-    (home-store .result) _ (home-store .ensures) (c .filled .result) (c .filled .ensures)
-    (omega (arith, c .before .before .before .before .before .before .before .if2 .left, place .2)) (omega (arith, c .before .before .before .before .before .if3 .left, place .0)) (clear-section .last .0) (clear-section .ensures)
+    let args = c .before .before .before .before .before .before .before .before .before .before .before .before .before .before .before .before .before .before .before .before .before .args in
+    let pre = c .before .before .before .before .before .before .before .before .before .before .before .before .before .before .before .before .before .before .before .before .before .pre in
+    let e = entryOf (args .s .layout .width) (args .st .now) (args .i) in
+    let home = c .before .before .before .before .before .before .before .before .home-stores .ensures .0 e (sym (c .before .before .before .before .before .before .before .before .before .before .before .before .before .before .before .entry-sector .ensures)) in
+    let place = state-writing-back (args .s) (pre .0) (args .i) (args .h) (pre .3) in
+    last-entry (args .s) (args .v .now) (args .st .now) (args .out .now) (pre .0) (pre .1) (pre .2) (args .i) (args .h) (pre .3) (c .before .before .before .before .before .before .before .before .before .before .before .before .before .before .before .entry-sector .result) (c .before .before .before .before .before .before .before .before .before .before .before .before .before .before .before .entry-sector .ensures) (c .before .before .before .before .before .before .before .before .before .before .before .before .before .before .if1 .left)
+    (c .before .before .before .before .before .before .before .before .before .before .before .home-store .result) _ (c .before .before .before .before .before .before .before .before .before .before .before .home-store .ensures) (c .filled .result) (c .filled .ensures)
+    (omega (arith, home, c .before .before .before .before .before .before .before .if2 .left, home-all (args .s .layout) e (args .h) (place .2))) (omega (arith, c .before .before .before .before .before .if3 .left, place .0)) (c .before .before .before .clear-section .last .0) (c .before .before .before .clear-section .ensures)
 
 pub write-back-step-spec : {M : Type 1} → statement M
 write-back-step-spec =
@@ -79,6 +91,7 @@ write-back-step-spec =
     returns
     home-store-requires
     add-if2
+    (λ c κs. search needs)
     (λ c. search needs)
     (λ c κs. search needs)
     (λ c. search needs)

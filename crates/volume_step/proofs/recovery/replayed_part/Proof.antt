@@ -1,10 +1,10 @@
 use Prim.Native.Nat.{ℕ}
 use mathlib.Core.List.{List}
-use mathlib.Core.Path.{_≡_, sym, ap, _∙_, subst}
-use native.Mathlib.Omega.{arith}
+use mathlib.Core.Path.{_≡_, sym, ap, subst}
 use Rattle.model.specs.Section.{entryOf}
 use Rattle.model.specs.Store.{Store, homeStore}
 use Rattle.stores.specs.declared.changes.Part.{Part}
+use Rattle.stores.specs.Asked.{StoreOfEntry}
 use Rattle.stores.specs.Changes.{Changes}
 use borrow.Author.Needs.{needs}
 use Rattle.volume_step.proofs.recovery.replayed_part.Statement.{statement}
@@ -15,7 +15,7 @@ home-part-requires c κs =
     let args = c .before .before .before .args in
     let pre = c .before .before .before .pre in
     let section-of = c .before .section-of in
-    (pre .0, section-of .ensures .1, pre .3, pre .4 ∙ ap (λ (y : List ℕ). entryOf (args .g .width) y (args .x .entry) .sector) (sym (section-of .ensures .0)), pre .5, omega (arith, pre .6), search needs)
+    (subst (λ (y : List ℕ). StoreOfEntry (args .g) y (args .x .entry) (args .sector) (args .x .store)) (sym (section-of .ensures .0)) (pre .0), search needs)
 
 same-store : {v c : List ℕ} {p : Part} {x y : Store} → x ≡ y → Changes v x p c → Changes v y p c
 same-store {v} {c} {p} e m = subst (λ (z : Store). Changes v z p c) e m

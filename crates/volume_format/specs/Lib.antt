@@ -1,0 +1,2 @@
+-- What format stores behind the journal, as the code stores it.
+pub mod Runs
