@@ -1,6 +1,6 @@
 #!/usr/bin/env bash
 # Draws the drawings of docs/drawings again, and compares them with those that are kept. The script that draws holds its formulas
-# to document 01's examples, and every label to its room.
+# to the examples of R91, and every label to its room.
 set -euo pipefail
 cd "$(dirname "$0")/.."
 source tests/common/need.sh

@@ -1,5 +1,5 @@
 #!/usr/bin/env bash
-# Only the digest rests on compression. A crate above that listed it could compute `sha256`, which is to be used by its promise alone.
+# Only the digest rests on compression. A crate above that listed it could compute `sha256`, which is to be used by its promise alone: R8, R99.
 set -euo pipefail
 cd "$(dirname "$0")/.."
 

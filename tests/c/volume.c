@@ -1,5 +1,5 @@
 /*
- * The volume's calls of the C interface: document 01's examples (r 0, T 32, N 16, S 1, P 16), a cut after every store of a
+ * The volume's calls of the C interface: the examples of R91 and R92 (r 0, T 32, N 16, S 1, P 16), a cut after every store of a
  * batch, and refusals. Also compiled as C++.
  */
 #undef NDEBUG

@@ -1,4 +1,4 @@
-// The bench program: document 01, "Bench program". Reads an image from standard input and prints its report; volume_report says what that is.
+// The bench program: R88. Reads an image from standard input and prints its report; volume_report says what that is.
 use libc::STDIN_FILENO;
 use libc::STDOUT_FILENO;
 use volume_report::REPORT_SIZE;

@@ -1,4 +1,4 @@
--- The SHA-256 hash computation: FIPS 180-4, sections 5.2.1 and 6.2.2. A block is 64 bytes, a hash value eight words.
+-- The SHA-256 hash computation, R10: FIPS 180-4, sections 5.2.1 and 6.2.2. A block is 64 bytes, a hash value eight words.
 --
 -- wordOf b t           : M_t, word t of the block b: its bytes 4 t to 4 t + 3, the most significant first (5.2.1, 3.1)
 -- scheduleOf n b       : the words W_0 to W_(n-1) of the message schedule of the block b (6.2.2, step 1)

@@ -1,4 +1,4 @@
--- The constants of SHA-256: FIPS 180-4, sections 4.2.2 and 5.3.3.
+-- The constants of SHA-256, R10: FIPS 180-4, sections 4.2.2 and 5.3.3.
 --
 -- K            : the round constants, the first 32 bits of the fractional parts of the cube roots of the first 64 primes
 -- initialHash  : H⁽⁰⁾, the hash value that the computation starts from

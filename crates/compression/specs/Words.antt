@@ -1,4 +1,4 @@
--- Operations on 32-bit words, and the six functions of SHA-256: FIPS 180-4, sections 3.2 and 4.1.2, in their order and under their names.
+-- Operations on 32-bit words, and the six functions of SHA-256, R10: FIPS 180-4, sections 3.2 and 4.1.2, in their order and under their names.
 -- A word is a number below 2 ^ 32.
 --
 -- x ⊞ y                    : the sum modulo 2 ^ 32 (3.2, operation 2)

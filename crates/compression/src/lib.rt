@@ -1,4 +1,4 @@
-// The compression of SHA-256: one block, by the message schedule and the 64 rounds. FIPS 180-4, section 6.2.2.
+// The compression of SHA-256, R10: one block, by the message schedule and the 64 rounds. FIPS 180-4, section 6.2.2.
 //
 // These are functions for the crates of this repository. The digest hands on whole blocks alone; so a function here may have a `requires`, and every
 // caller shows it.

@@ -10,7 +10,7 @@ pub(crate) fn add(x: u32, y: u32) -> u32
     std::num::wrapping_add_u32(x, y)
 }
 
-// The rotation right by n bits. Written so, it compiles to one instruction.
+// The rotation right by n bits, by shifts and or: R96. Written so, it compiles to one instruction.
 fn rotate(x: u32, n: u32) -> u32
     requires { ⌜ (0 < n) × (n < 32) ⌝ }
     ensures { λ r. ⌜ r ≡ rotr n x ⌝ }

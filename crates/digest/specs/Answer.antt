@@ -1,4 +1,4 @@
--- Document 01's number and values of each answer: "Refusal numbers". Nothing is returned beside a digest's refusal.
+-- The number and values of each answer, R71 and R100. Nothing is returned beside a digest's refusal.
 --
 -- answerOf a : the code's answer a: taken, or refused with 1 where the digest's limit is passed
 use Prim.Native.Nat.{ℕ}

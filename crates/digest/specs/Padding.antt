@@ -1,4 +1,4 @@
--- Padding and the bytes of a digest: FIPS 180-4, sections 5.1.1 and 6.2.2, for messages of whole bytes.
+-- Padding and the bytes of a digest, R10: FIPS 180-4, sections 5.1.1 and 6.2.2, for messages of whole bytes.
 --
 -- zeroBytesOf c  : how many zero bytes stand between the byte 0x80 and the length, for a message of c bytes: the least z with c + 1 + z ≡ 56 (mod 64);
 --                  Theorems has it as the standard's least number of zero bits

@@ -1,10 +1,10 @@
--- The digest's calls: what each returns, for any state, piece and message. Document 01, "Digest".
+-- The digest's calls, R11 and R12: what each returns, for any state, piece and message.
 --
--- limit             : the most bytes that a message may have
+-- limit             : the most bytes that a message may have, R12
 -- freshOf           : the state before any piece
--- heldOf s          : the bytes of the unfinished block, the first (count mod 64) of the tail
+-- heldOf s          : the bytes of the unfinished block, R11: the first (count mod 64) of the tail
 -- absorbOf s p      : the state s with the piece p added: the whole blocks of the held bytes and p are hashed, what is left is the tail, with zeros behind it
--- UpdateOutcome     : what adding a piece returns: the answer as document 01 has it, and the state
+-- UpdateOutcome     : what adding a piece returns: the answer by number and values, and the state
 -- updated u         : what the code returned, so read
 -- updateOf s p      : the call that adds a piece; past the limit it is refused, and the state stays (refusedPieceOf)
 -- DigestOutcome     : what closing returns: the answer, and the digest

@@ -1,8 +1,8 @@
--- SHA-256 of a whole message: FIPS 180-4, section 6.2.
+-- SHA-256 of a whole message, R10: FIPS 180-4, section 6.2.
 --
 -- sha256 m : the 32 bytes of the digest of the message m, a list of bytes
 --
--- The definition is shut: no crate above can unfold it. What they may use of it is below, in Sha256/Promise.
+-- The definition is shut: no crate above can unfold it. What they may use of it is below, in Sha256/Promise (R8).
 mod Laws
 pub mod Promise
 pub mod Examples

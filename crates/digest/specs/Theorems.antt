@@ -6,11 +6,11 @@ use Rattle.digest.specs.declared.Answer as code
 use Rattle.digest.specs.Answer.{answerOf}
 use Rattle.digest.specs.Padding.{zeroBytesOf, paddingOf}
 
--- Number and values tell the answers apart: a contract that states them states the answer.
+-- Number and values tell the answers apart: a contract that states them states the answer (R100).
 abbrev pub AnswersDiffer : Type 0
 AnswersDiffer = (a b : code.Answer) → answerOf a ≡ answerOf b → a ≡ b
 
--- The padding is that of FIPS 180-4, section 5.1.1. Behind a message of l bits comes a one bit, and k zero bits, "where k is the smallest, non-negative
+-- The padding is that of FIPS 180-4, section 5.1.1 (R10). Behind a message of l bits comes a one bit, and k zero bits, "where k is the smallest, non-negative
 -- solution to the equation l + 1 + k ≡ 448 mod 512". Of a message of c bytes l is 8 c, and k the seven zero bits of the byte 0x80 and the zero bytes.
 
 abbrev pub zeroBitsOf : ℕ → ℕ

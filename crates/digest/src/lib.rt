@@ -1,4 +1,4 @@
-// SHA-256 over pieces: document 01, "Digest"; FIPS 180-4.
+// SHA-256 over pieces: R10 to R12.
 //
 // What each call returns is defined in specs/Pieces.antt. The digest itself is `sha256` of specs/Sha256.antt, which crates
 // above see by the laws in specs/Sha256/Promise.antt alone.
@@ -10,7 +10,7 @@ ghost use Rattle.octets.specs.Answer.{numberIn};
 ghost use Rattle.digest.specs.Answer.{answerOf};
 ghost use Rattle.digest.specs.Pieces.{freshOf, updated, refusedPieceOf, updateOf, closed, refusedDigestOf, finishOf, digestOf};
 
-// A digest in the making: the hash value of the whole blocks so far, the unfinished block, and how many bytes there were in all.
+// A digest in the making (R94): the hash value of the whole blocks so far, the unfinished block, and how many bytes there were in all.
 // Any value of it may be handed in.
 pub struct State {
     pub words: [u32; 8],
@@ -18,7 +18,7 @@ pub struct State {
     pub count: u64,
 }
 
-// How a call ends; specs/Answer.antt has document 01's number and values of each.
+// How a call ends; specs/Answer.antt has number and values of each.
 pub enum Answer {
     // The call was carried out.
     Taken,
@@ -38,10 +38,10 @@ pub struct Closed {
     pub digest: [u8; 32],
 }
 
-// The most bytes that a message may have: FIPS 180-4 counts its bits in 64 bits.
+// The most bytes that a message may have, R12: FIPS 180-4 counts its bits in 64 bits.
 const LIMIT: u64 = 2305843009213693951;
 
-// The number of an answer in document 01; 0 where it is no refusal.
+// The number of an answer, R71; 0 where it is no refusal.
 pub fn number(a: Answer) -> u32
     ensures { λ r. ⌜ r ≡ numberIn (answerOf a) ⌝ }
 {

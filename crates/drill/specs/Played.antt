@@ -1,7 +1,7 @@
--- What a drill hands back and leaves in its two loans. The world of the model has the volume and, while a state is live, its staging; demand 3 speaks
--- of that world. The staging loan has bytes also while nothing is live.
+-- What a drill hands back and leaves in its two loans. The world of the model has the volume and, while a state is live, its staging; demand 3 (R5)
+-- speaks of that world. The staging loan has bytes also while nothing is live.
 --
--- setting r               : document 01's tags, and r reserved sectors
+-- setting r               : the tags of R14, and r reserved sectors
 -- liveOf x st             : what is live, with the staging loan st
 -- worldOf m v st          : the world with the volume v
 -- filled e st             : the staging loan st as the call of e finds it: an open fills the first bytes, those that it is lent
@@ -86,5 +86,5 @@ module _ (g : Layout) (script v st : List ℕ) where
   pub record Plays (p : Played) (v′ st′ : List ℕ) : Type 0 where
     pub format : formatAnswer (p .format) ≡ formatOf tagOf g v .answer
     pub leaves : Leaves (g .reserved) (formatOf tagOf g v .volume) st played (p .last) v′ st′
-    -- demand 3, of what ran
+    -- R5: demand 3, of what ran
     pub agrees : p .last .settled ≡ true → Agrees tagOf g (formatOf tagOf g v .volume) (worldOf (p .last) v′ st′) (ledgerAfter tagOf g v played)

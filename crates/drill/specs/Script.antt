@@ -1,6 +1,5 @@
--- Scripts: lists of calls and cuts as bytes. Document 01, "The ledger of demand 3", its first paragraph, has more lists than scripts can write: here the
--- bytes of a loan have one value, staging is the whole of a loan or its first 511 bytes, what a write or a read is lent has 512 bytes or 511, and a
--- sector's number is below 65,536.
+-- Scripts: lists of calls and cuts as bytes. R58 and R59 have more lists than scripts can write: here the bytes of a loan have one value, staging is
+-- the whole of a loan or its first 511 bytes, what a write or a read is lent has 512 bytes or 511, and a sector's number is below 65,536.
 --
 -- eventSize          : the bytes of an event: its kind, a logical sector (2, little-endian), a byte to fill loans with
 -- shortSize          : a byte less than a sector has: a wrong length for every loan

@@ -1,6 +1,6 @@
-// Drills: a script of calls and cuts, played on a lent volume by the volume's own calls. Document 01, "The ledger of demand 3".
+// Drills: a script of calls and cuts, played on a lent volume by the volume's own calls: R58 to R60.
 //
-// `play` leaves the world that the model's definitions give for the same list, so what demand 3 says of every list holds of what ran. A script is
+// `play` leaves the world that the model's definitions give for the same list, so what demand 3 (R5) says of every list holds of what ran. A script is
 // bytes, four to an event: its kind, a logical sector (2 bytes, little-endian), and a byte that fills the loans of the call. Any bytes are one.
 // Which lists a script can write is in specs/Script.antt.
 use model::FormatAnswer;
@@ -133,7 +133,7 @@ fn event(
     }
 }
 
-// While nothing is live only an open is made.
+// While nothing is live only an open is made (R58).
 fn event_off(r: usize, v: &[u8], st: &mut [u8], kind: u8, sector: usize, fill: u8) -> Moment
     ensures { λ m. ⌜ Turn r (now (v .entry)) off (now (st .entry)) (eventOf (length (now (st .entry))) kind sector fill) m (now (v .entry)) (now (st .exit)) ⌝ }
 {
@@ -180,7 +180,7 @@ fn after_open(a: OpenAnswer) -> Moment
     }
 }
 
-// While a state is live, anything but an open.
+// While a state is live, anything but an open (R58).
 fn event_on(
     r: usize,
     s: State,

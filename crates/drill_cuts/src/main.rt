@@ -1,8 +1,8 @@
 // Power cuts, drilled: two batches on a fresh volume, cut after every store of them, and again after every store of the recovery that follows; then
-// the volume recovers and every sector is read. Document 01, "The ledger of demand 3".
+// the volume recovers and every sector is read, as the ledger has it: R5.
 //
 // A line for each number of sections. With one, the second batch goes over the first in the journal; with two, a recovery may replay both. A drill
-// has as many steps in its last recovery as document 01 counts stores, so it is done recovering only if that is the number.
+// has as many steps in its last recovery as R40 counts stores, so it is done recovering only if that is the number.
 mod script;
 mod tally;
 

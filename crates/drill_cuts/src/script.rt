@@ -1,4 +1,4 @@
-// The scripts, and what document 01's ledger has after each.
+// The scripts, and what the ledger (R61 to R65) has after each.
 //
 // The first batch writes sectors 3 and 7, the second 7, 9 and 3, each with bytes of one value. A batch is entered by its 88th store, and its entries take
 // two stores each after that. Between those calls stand others that change nothing: reads, and calls with a loan of a wrong length.

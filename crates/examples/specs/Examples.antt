@@ -1,7 +1,6 @@
--- Document 01's numbers, in two tables. "Bench examples": those marked * "are proved together, as a single table with one claim over all its rows".
--- "Refusal numbers": the number and values of each answer.
+-- The numbers of two rules, a table each. R91: the examples that are proved together. R71: the number and values of each answer.
 --
--- A row has what the definitions give, and the numbers of the paper. The claim is that they are the same, in every row.
+-- A row has what the definitions give, and the rule's numbers (`paper`). The claim, one for a table, is that they are the same in every row.
 use Prim.Native.Nat.{ℕ, _-_, _*_}
 use mathlib.Core.Bool.{Bool, true, _&&_}
 use mathlib.Core.List.{List, [], _∷_}
@@ -32,7 +31,7 @@ use Rattle.tree.specs.Build.{buildOf}
 
 -- ---- what the rows are about
 
--- "r 0, T 32, N 16, S 1", with P as given
+-- r 0, T 32, N 16, S 1, with P as given
 abbrev bench : ℕ → Layout
 bench p = record { reserved = 0; shift = 4; width = 32; sections = 1; provided = p }
 
@@ -55,7 +54,7 @@ opened = record { layout = bench 16; phase = Filling; count = 0; id = 1 }
 abbrev hashBlocks : ℕ → ℕ
 hashBlocks n = hashBlocksOf (levelsOf n) n
 
--- ---- the starred examples
+-- ---- the examples, R91
 
 pub record Row : Type 0 where
   pub given : List ℕ
@@ -63,35 +62,35 @@ pub record Row : Type 0 where
 
 abbrev table : List Row
 table =
-    -- T 8: entry 24 bytes, 20 a sector, E 160, M 168.
+    -- T 8: the bytes of an entry, the entries of a metadata sector (R27, R28), E and M (R26)
     record { given = entrySize 8 ∷ perSector 8 ∷ entryCount 8 ∷ sectionSize 8 ∷ []; paper = 24 ∷ 20 ∷ 160 ∷ 168 ∷ [] } ∷
-    -- T 16: 32, 15, 120, 128.
+    -- T 16, likewise
     record { given = entrySize 16 ∷ perSector 16 ∷ entryCount 16 ∷ sectionSize 16 ∷ []; paper = 32 ∷ 15 ∷ 120 ∷ 128 ∷ [] } ∷
-    -- T 32: 48, 10, 80, 88.
+    -- T 32, likewise
     record { given = entrySize 32 ∷ perSector 32 ∷ entryCount 32 ∷ sectionSize 32 ∷ []; paper = 48 ∷ 10 ∷ 80 ∷ 88 ∷ [] } ∷
-    -- T 32: N 128 gives A 8; N 256 gives A 16.
+    -- T 32: A, R19, for N 128 and N 256
     record { given = tagArea (tagged 7) ∷ tagArea (tagged 8) ∷ []; paper = 8 ∷ 16 ∷ [] } ∷
-    -- r 0, T 32, N 16, S 1, P 16: 120 sectors. A volume of 119 is refused 5.
+    -- P 16: the sectors needed, and how a volume of one less is refused
     record {
       given = needed (bench 16) ∷ refusalIn (formatOf tagOf (bench 16) (replicate (119 * 512) 0) .answer);
       paper = 120 ∷ 5 ∷ 120 ∷ [];
     } ∷
-    -- There, sector 5 lies at 109, its tag at byte 49,312. Sector 16 is refused 6.
+    -- P 16: where logical sector 5 lies (R22) and its tag (R23), and how sector 16 is refused
     record {
       given = dataAt (bench 16) 5 ∷ tagByte (bench 16) 5 ∷ refusalIn (writeOf tagOf opened (emptySection 32) 16 (replicate 512 0) .answer);
       paper = 109 ∷ 49312 ∷ 6 ∷ [];
     } ∷
-    -- P 20: 132 sectors. Sector 17 lies at 129, tag at byte 61,472.
+    -- P 20: the sectors needed, and where logical sector 17 lies, and its tag: in the second run
     record { given = needed (bench 20) ∷ dataAt (bench 20) 17 ∷ tagByte (bench 20) 17 ∷ []; paper = 132 ∷ 129 ∷ 61472 ∷ [] } ∷
-    -- S 3: ids 1, 3, 4 go to sections 0, 2, 0.
+    -- S 3: the sections of the ids 1, 3 and 4, R31
     record { given = sectionFor (journalled 3) 1 ∷ sectionFor (journalled 3) 3 ∷ sectionFor (journalled 3) 4 ∷ []; paper = 0 ∷ 2 ∷ 0 ∷ [] } ∷
-    -- 128, 129, 16,384 data blocks: 1, 3, 129 hash blocks. 0 and 16,385 are refused 2.
+    -- the hash blocks above 128, 129 and 16,384 data blocks (R80), and how 0 and 16,385 are refused (R83)
     record {
       given =
           hashBlocks 128 ∷ hashBlocks 129 ∷ hashBlocks 16384 ∷ numberIn (buildOf 0 [] [] [] .answer) ∷ numberIn (buildOf 16385 [] [] [] .answer) ∷ [];
       paper = 1 ∷ 3 ∷ 129 ∷ 2 ∷ 2 ∷ [];
     } ∷
-    -- 129 blocks: the digest of block 128 stands at tree byte 8,192.
+    -- 129 data blocks: the byte of the tree at which the digest of block 128 stands, R81
     record { given = digestAt (levelsOf 129 - 1) 129 128 ∷ []; paper = 8192 ∷ [] } ∷
     []
 
@@ -108,7 +107,7 @@ pub starred-examples : allSame table ≡ true
 unfolding layoutOk widthOk formatOf writeOf stateOk stagingOk emptySection levelsAbove levelsOf hashBlocksOf buildOf
 starred-examples = refl
 
--- ---- the refusals
+-- ---- the refusals, R71
 
 -- number and values of an answer, one behind the other, as integers; the number alone where nothing is also returned
 abbrev told : {A : Type 0} → Answer ℤ A → List ℤ
@@ -134,39 +133,39 @@ pub record Told : Type 0 where
 
 abbrev refusals : List Told
 refusals =
-    -- digest. 1: the digest's limit is passed; nothing.
+    -- digest. 1: its limit is passed
     record { given = toldPlain (digest-answers.answerOf digest.TooLong); paper = pos 1 ∷ [] } ∷
     -- volume, the table's rows in order.
-    -- 1: a loan has a wrong length, or a state isn't sound; nothing.
+    -- 1: the length of a loan, or the state
     record { given = toldPlain (volumeAnswer volume.Malformed); paper = pos 1 ∷ [] } ∷
-    -- 2: parameter or T out of range; nothing.
+    -- 2: a parameter
     record { given = toldPlain (volumeAnswer volume.Parameter); paper = pos 2 ∷ [] } ∷
-    -- 3: format: superblock not zero; open: superblock zero; nothing.
+    -- 3: a superblock that is not zero at format, or is at open
     record { given = toldPlain (volumeAnswer volume.Superblock); paper = pos 3 ∷ [] } ∷
-    -- 4: superblock not valid; nothing.
+    -- 4: a superblock that is not valid
     record { given = toldPlain (volumeAnswer volume.Invalid); paper = pos 4 ∷ [] } ∷
-    -- 5: volume shorter than its layout; sectors needed.
+    -- 5: a volume that is too short, with the sectors needed
     record { given = toldPlain (volumeAnswer (volume.Short 120)); paper = pos 5 ∷ pos 120 ∷ [] } ∷
-    -- 6: logical sector not below P; nothing for an argument; the entry if staged; section and entry if in a journal.
+    -- 6: a logical sector that is not below P: an argument; a staged entry, with its place; one of the journal, with section and place
     record { given = toldPlain (volumeAnswer volume.Range); paper = pos 6 ∷ [] } ∷
     record { given = toldPlain (volumeAnswer (volume.StagedRange 7)); paper = pos 6 ∷ pos 7 ∷ [] } ∷
     record { given = toldPlain (volumeAnswer (volume.JournalRange 2 7)); paper = pos 6 ∷ pos 2 ∷ pos 7 ∷ [] } ∷
-    -- 7: tag doesn't fit; sector, or section and entry.
+    -- 7: a tag that does not fit, with the sector; in the journal, with section and place
     record { given = toldPlain (volumeAnswer (volume.TagMismatch 5)); paper = pos 7 ∷ pos 5 ∷ [] } ∷
     record { given = toldPlain (volumeAnswer (volume.JournalTagMismatch 2 7)); paper = pos 7 ∷ pos 2 ∷ pos 7 ∷ [] } ∷
-    -- 8: batch full; nothing.
+    -- 8: a full batch
     record { given = toldPlain (volumeAnswer volume.Full); paper = pos 8 ∷ [] } ∷
-    -- 9: not now; nothing.
+    -- 9: a phase that forbids the call
     record { given = toldPlain (volumeAnswer volume.NotNow); paper = pos 9 ∷ [] } ∷
-    -- 10: commit ids used up; nothing.
+    -- 10: no commit id left
     record { given = toldPlain (volumeAnswer volume.Exhausted); paper = pos 10 ∷ [] } ∷
-    -- 11: whole section in the wrong place; section.
+    -- 11: a whole section that is not where its id belongs, with the section
     record { given = toldPlain (volumeAnswer (volume.Misplaced 2)); paper = pos 11 ∷ pos 2 ∷ [] } ∷
-    -- tree. 1: a loan has a wrong length; nothing.
+    -- tree. 1: the length of a loan
     record { given = told (tree-answers.answerOf tree.WrongLength); paper = pos 1 ∷ [] } ∷
-    -- tree. 2: parameter out of range; nothing.
+    -- tree. 2: a parameter
     record { given = told (tree-answers.answerOf tree.OutOfRange); paper = pos 2 ∷ [] } ∷
-    -- tree. 12: tree doesn't verify; highest failing level, the data block being level −1.
+    -- tree. 12: a block that does not verify, with the highest failing level; the data block is level −1 (R84)
     record { given = told (tree-answers.answerOf tree.DataDiffers); paper = pos 12 ∷ negsuc 0 ∷ [] } ∷
     record { given = told (tree-answers.answerOf (tree.LevelDiffers 1)); paper = pos 12 ∷ pos 1 ∷ [] } ∷
     []

@@ -1,7 +1,7 @@
--- What a call answers. Document 01, "Refusal numbers": "Where an answer is an enum, a definition states this paper's number and values for each of its
--- cases. The promises use that definition." Each answer enum of the code is mapped onto `Answer` by such a definition.
+-- What a call answers. R100: each answer enum of the code is mapped onto `Answer` by a definition, which gives the number and values of each of its
+-- cases, and the contracts are stated by that definition.
 --
--- Refusal Value  : a number of document 01's table, and what is also returned, as values of that type
+-- Refusal Value  : a number of R71's table, and what is also returned, as values of that type
 -- Answer Value A : what a call answers: it is taken, and gives something of type A, or it is refused
 -- refusal n xs   : the refusal with the number n, which also returns xs
 -- refuse n xs    : the answer of a call that is so refused

@@ -1,5 +1,5 @@
--- Choice by tests. Document 01, "Refusal numbers": each is given exactly when its rule is first met in the order listed. A call's rules are rows of
--- a test and an answer, in that order.
+-- Choice by tests. R69: a refusal is given exactly where its rule is the first that is met. A call's rules are rows of a test and an answer, in the
+-- call's order.
 use mathlib.Core.Bool.{Bool, true, false}
 use mathlib.Core.List.{List, [], _∷_}
 

@@ -1,5 +1,4 @@
--- Bytes, and the numbers that they write down. Document 01, "What the card gets": numbers are little-endian unless FIPS 180-4 says otherwise;
--- those of FIPS 180-4 are big-endian.
+-- Bytes, and the numbers that they write down. R9: the least significant byte comes first, save in the numbers of FIPS 180-4, which are big-endian.
 use Prim.Native.Nat.{ℕ, zero, suc, _+_, _*_, _/_, _%_, _^_, _<_}
 use mathlib.Core.List.{List, [], _∷_}
 use lib.ListN.{getD}

@@ -1,5 +1,5 @@
--- Parts of a list of bytes: taken, replaced, compared. A part is given by index and length, in bytes, as document 01, "Volume layout", gives the fields of
--- a superblock.
+-- Parts of a list of bytes: taken, replaced, compared. A part is given by index and length, in bytes, as R17 gives the fields of a
+-- superblock.
 use Prim.Native.Nat.{ℕ, _+_}
 use mathlib.Core.Bool.{Bool, true, false, _&&_}
 use mathlib.Core.List.{List, [], _∷_, _++_}

@@ -1,4 +1,4 @@
--- The sectors of a volume. Document 01, "Volume layout, in 512-byte sectors": a volume is a list of bytes, and sector a starts at byte a × 512.
+-- The sectors of a volume, R15: a volume is a list of bytes, and sector a starts at byte a × 512.
 use Prim.Native.Nat.{ℕ, _*_}
 use mathlib.Core.List.{List}
 use Rattle.octets.specs.Parts.{part, patch}

@@ -1,4 +1,4 @@
--- The check of a whole volume: document 01, "Bench program": "It opens it, finishes recovery in memory and checks each sector."
+-- The check of a whole volume, R88: it is opened, its recovery finished in memory, and each sector read.
 --
 -- recoverAnswer a   : the answer a of the call: the state, and how many stores there were; or open's refusal
 -- recoverOf r v st  : the call: open, then as many steps as it reports are to come. Its answer, and volume and staging afterwards

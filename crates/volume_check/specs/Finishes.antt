@@ -1,5 +1,5 @@
--- That a recovery ends, whatever the volume holds: document 01, "Working a volume", Step: "Open reports how many stores are to come: twice the used
--- entries", and "How tight each contract is": "the phase ends after exactly that many". The proofs are in proofs/Finishing.
+-- That a recovery ends, whatever the volume holds. R40: open reports two stores for each used entry. R102: after exactly that many the recovery has ended,
+-- so that no open can make the number up. The proofs are in proofs/Finishing.
 --
 -- EndsAfter n s v st  : from the state s, on the volume v with the staging st, n steps make a store each, and the volume is filling after the last of them
 -- Ends                : that the number that an open reports is twice the used entries, and that many steps end the recovery; over any family of tag functions

@@ -1,4 +1,4 @@
-// The check of a whole volume: document 01, "Bench program". The volume is opened, its recovery is finished in memory, and each sector is read.
+// The check of a whole volume: R88. The volume is opened, its recovery is finished in memory, and each sector is read.
 use layout::SECTOR_SIZE;
 use model::OpenAnswer;
 use model::ReadAnswer;

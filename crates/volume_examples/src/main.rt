@@ -1,4 +1,4 @@
-// Document 01, "Bench examples", those that are not proved as a table, run by the volume's own calls: r 0, T 32, N 16, S 1, P 16, so 120 sectors.
+// The examples of R92, run by the volume's own calls: r 0, T 32, N 16, S 1, P 16, so 120 sectors.
 //
 // Sector 5 is written with 512 bytes of one value, and read back at the end: the value that is printed is that of all 512 bytes.
 mod calls;
@@ -30,7 +30,7 @@ fn examples(v: &mut [u8], st: &mut [u8]) {
     same_sector_twice(v, st);
 }
 
-// "the 80th write is taken, the 81st refused 8"
+// A batch takes 80 writes; one more is refused 8.
 fn full_batch(v: &mut [u8], st: &mut [u8]) {
     let mut s = calls::fresh(v, st);
     let mut taken: usize = 0;
@@ -48,7 +48,7 @@ fn full_batch(v: &mut [u8], st: &mut [u8]) {
     }
 }
 
-// "One write to sector 5: stores to 8 to 95, then 109, then 96. Acknowledged by the 88th, filling after the 90th."
+// One write: 88 stores to the journal, by the last of which it is acknowledged, then its data and its tag, and the volume is filling.
 fn one_write(v: &mut [u8], st: &mut [u8]) {
     let s = calls::fresh(v, st);
     let written = calls::write(s, st, 1);
@@ -58,7 +58,7 @@ fn one_write(v: &mut [u8], st: &mut [u8]) {
     ending(course, v, st);
 }
 
-// "The same sector twice in a batch: the later data, 92 stores."
+// One sector twice in a batch: 88 stores and four, and the later bytes.
 fn same_sector_twice(v: &mut [u8], st: &mut [u8]) {
     let s = two_writes(v, st);
     let course = calls::commit(s, v, st, false);
@@ -73,7 +73,7 @@ fn two_writes(v: &mut [u8], st: &mut [u8]) -> State {
     second.state
 }
 
-// "A cut after 87 stores keeps nothing of it, after 88 all of it."
+// A cut before the 88th store loses the write, one behind it does not.
 fn cut_after(v: &mut [u8], st: &mut [u8], stores: usize) {
     commit_part(v, st, stores);
     report::number(b"one write, a cut after store ", stores);

@@ -1,15 +1,15 @@
--- The report of a check, as text: document 01, "Bench program".
+-- The report of a check, as text: R88 to R90.
 --
--- charactersOf s       : the bytes of a text: the ASCII code of each character
+-- charactersOf s  : the bytes of a text: the ASCII code of each character
 -- decimal n       : a number in decimal, without leading zeros; n is below 10^20
 -- fieldOf w n     : a word, then a number
 -- lineOf w n      : the same as the end of a line
--- refusedLine r   : "prints `refused` and the number"
+-- refusedLine r   : all that is printed of a refusal, R89
 -- layoutLine g    : the first line of a check
--- badLines bad n  : "`bad-sector s` for each bad one, ascending", of the sectors below n
--- checkText ..    : the lines of a check: the layout, how many stores open reported, the bad sectors, how many they are
+-- badLines bad n  : a line for each bad one of the sectors below n, rising
+-- checkText ..    : the lines of a check, R90: the layout, how many stores open reported, the bad sectors, how many they are
 -- reportOf v      : the report of the image v: its text, and the image afterwards
--- FreshReports    : the report of a volume that format left; FreshPrints: document 01's example
+-- FreshReports    : the report of a volume that format left; FreshPrints: R90's example
 -- Puts .., Reports .. : that a call put a text, or a report, in a loan
 use Prim.Native.Char.{code}
 use Prim.Native.String.{String, [] as noText, _∷_ as _then_}
@@ -34,7 +34,7 @@ use Rattle.model.specs.Format.{formatOf}
 use Rattle.model.specs.Query.{queryOf}
 use Rattle.volume_check.specs.Check.{RecoverResult, recoverOf, isBad, countOf}
 
--- "an image of at most 128 sectors"
+-- R88: the sectors of the longest image
 abbrev pub mostImageSectors : ℕ
 mostImageSectors = 128
 
@@ -107,7 +107,7 @@ abbrev pub reportHeld : List ℕ → Answer ℕ (Layout × ℕ) → Report
 reportHeld v (taken x) = reportFrom (x .0) (recoverOf 0 v (replicate (x .1) 0))
 reportHeld v (refused r) = refusedReport v r
 
--- "A refused opening, or input too long (1)"
+-- R89: a refused opening, or input that is too long
 unfoldable pub reportOf : List ℕ → Report
 reportOf v = pick (ltb (mostImageSectors * sectorSize) (length v)) (refusedReport v (refusal 1 [])) (reportHeld v (queryOf 0 v))
 
@@ -118,7 +118,7 @@ FreshReports =
     → length (formatOf tagOf g v .volume) ≤ mostImageSectors * sectorSize
     → reportOf (formatOf tagOf g v .volume) .text ≡ checkText g 0 (λ s. false)
 
--- "A fresh image with T 32, N 16, S 1, P 16 prints exactly"
+-- R90: T 32, N 16, S 1, P 16, to the byte
 abbrev pub example : Layout
 example = record { reserved = 0; shift = 4; width = 32; sections = 1; provided = 16 }
 

@@ -1,4 +1,4 @@
-// The report of a check, as text, whose lines are defined in specs/Report.antt: document 01, "Bench program".
+// The report of a check, as text, whose lines are defined in specs/Report.antt: R88 to R90.
 use layout::SECTOR_SIZE;
 use model::Layout;
 use model::QueryAnswer;

@@ -1,4 +1,4 @@
--- The digest's promise: all that crates above may use of `sha256`. Its 32 bytes; two pieces are as the one that they make; closing after any pieces
+-- The digest's promise, R8: all that crates above may use of `sha256`. Its 32 bytes; two pieces are as the one that they make; closing after any pieces
 -- gives the digest of their concatenation.
 use Prim.Native.Nat.{ℕ, _+_, _/_, _≤_, _<_}
 use native.Mathlib.Nat.{zero-add}
