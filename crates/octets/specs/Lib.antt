@@ -3,3 +3,4 @@ pub mod Parts
 pub mod Sectors
 pub mod Choice
 pub mod Answer
+pub mod Tables
