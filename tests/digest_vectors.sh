@@ -1,6 +1,6 @@
 #!/usr/bin/env bash
 # R13: makes the expected output of the program digest_vectors again, with sha256sum, and compares the file that the program
-# is held to: the examples of FIPS 180-4, NIST's additional examples, and a message of each length up to 300 bytes.
+# is held to: NIST's examples for FIPS 180-4, its additional ones, and a message of each length up to 300 bytes.
 set -euo pipefail
 cd "$(dirname "$0")/.."
 

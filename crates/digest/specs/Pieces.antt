@@ -10,7 +10,7 @@
 -- DigestOutcome     : what closing returns: the answer, and the digest
 -- closed c          : what the code returned, so read
 -- closeOf s         : the digest of all that was added to s, by adding the padding
--- finishOf s        : the call that closes; past the limit it is refused, and 32 zeros stand for the digest (refusedDigestOf)
+-- finishOf s        : the call that closes; past the limit it is refused, and zeros stand for the digest (refusedDigestOf)
 -- digestOf m        : the call that takes a whole message, refused likewise
 use Prim.Native.Nat.{ℕ, _+_, _-_, _*_, _/_, _%_, _^_}
 use mathlib.Core.List.{List, [], _∷_, _++_}
@@ -25,7 +25,7 @@ use Rattle.compression.specs.Constants.{initialHash}
 use Rattle.digest.specs.Answer.{answerOf}
 use Rattle.digest.specs.Padding.{paddingOf, bytesOf}
 use Rattle.compression.specs.Compression.{hashOf}
-use Rattle.digest.specs.Sha256.{sha256}
+use Rattle.digest.specs.Sha256.{digestSize, sha256}
 
 abbrev pub limit : ℕ
 limit = 2 ^ 61 - 1
@@ -80,7 +80,7 @@ abbrev pub closed : Closed → DigestOutcome
 closed c = record { answer = answerOf (c .answer); digest = c .digest }
 
 abbrev pub refusedDigestOf : DigestOutcome
-refusedDigestOf = record { answer = refuse 1 []; digest = replicate 32 0 }
+refusedDigestOf = record { answer = refuse 1 []; digest = replicate digestSize 0 }
 
 unfoldable pub closeOf : State → List ℕ
 closeOf s = bytesOf (absorbOf s (paddingOf (s .count)) .words)

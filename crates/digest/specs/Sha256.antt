@@ -1,6 +1,7 @@
 -- SHA-256 of a whole message, R10: FIPS 180-4, section 6.2.
 --
--- sha256 m : the 32 bytes of the digest of the message m, a list of bytes
+-- digestSize : the length of a digest, in bytes
+-- sha256 m   : the digest of the message m, a list of bytes
 --
 -- The definition is shut: no crate above can unfold it. What they may use of it is below, in Sha256/Promise (R8).
 mod Laws
@@ -12,6 +13,9 @@ use lib.ListN.{length}
 use Rattle.compression.specs.Constants.{initialHash}
 use Rattle.compression.specs.Compression.{hashOf}
 use Rattle.digest.specs.Padding.{paddingOf, bytesOf}
+
+abbrev pub digestSize : ℕ
+digestSize = 32
 
 abbrev paddedOf : List ℕ → List ℕ
 paddedOf m = m ++ paddingOf (length m)

@@ -10,6 +10,9 @@ ghost use Rattle.octets.specs.Answer.{numberIn};
 ghost use Rattle.digest.specs.Answer.{answerOf};
 ghost use Rattle.digest.specs.Pieces.{freshOf, updated, refusedPieceOf, updateOf, closed, refusedDigestOf, finishOf, digestOf};
 
+// The length of a digest, in bytes.
+pub const DIGEST_SIZE: usize = 32;
+
 // A digest in the making (R94): the hash value of the whole blocks so far, the unfinished block, and how many bytes there were in all.
 // Any value of it may be handed in.
 pub struct State {
@@ -35,7 +38,7 @@ pub struct Updated {
 // What closing returns; the digest is zeros where the answer is a refusal.
 pub struct Closed {
     pub answer: Answer,
-    pub digest: [u8; 32],
+    pub digest: [u8; DIGEST_SIZE],
 }
 
 // The most bytes that a message may have, R12: FIPS 180-4 counts its bits in 64 bits.
@@ -105,7 +108,7 @@ fn refused_digest() -> Closed
 {
     Closed {
         answer: Answer::TooLong,
-        digest: [0u8; 32],
+        digest: [0u8; DIGEST_SIZE],
     }
 }
 

@@ -26,7 +26,7 @@ use Rattle.digest.specs.declared.Answer.the-variants as digest
 use Rattle.digest.specs.Answer as digest-answers
 use Rattle.tree.specs.declared.Answer.the-variants as tree
 use Rattle.tree.specs.Answer as tree-answers
-use Rattle.tree.specs.Places.{levelsAbove, levelsOf, hashBlocksOf, digestAt}
+use Rattle.tree_path.specs.Places.{levelsAbove, levelsOf, hashBlocksOf, digestAt}
 use Rattle.tree.specs.Build.{buildOf}
 
 -- ---- what the rows are about

@@ -6,10 +6,9 @@ use mathlib.Core.List.{List}
 use native.Mathlib.Omega.{arith}
 use lib.ListN.{length, getD}
 use Rattle.model.specs.Guarantees.{Outside}
-use Rattle.model.proofs.Volumes.{getD-patch}
 use Rattle.octets.specs.Parts.{part, patch}
 use Rattle.octets.specs.Sectors.{sectorAt, putSector}
-use Rattle.octets.proofs.Parts.{length-patch, part-patch-same, part-patch-before, part-patch-after}
+use Rattle.octets.proofs.Parts.{length-patch, part-patch-same, part-patch-before, part-patch-after, getD-patch-other}
 use Rattle.octets.proofs.Sectors.{put-inside, sector-part, sector-put-same, sector-put-other}
 use Rattle.model.specs.Geometry.{Apart, before, behind}
 use Rattle.model.specs.Layout.{sectionSize, sectionAt, base, dataAt, tagSector, tagOffset, tagByte, needed}
@@ -60,9 +59,9 @@ module _ (g : Layout) (R : Ranged g) (tag : Tag) (v : List ℕ) (room : needed g
 
   -- a byte outside data and tags
   pub home-outside : (h : ℕ) → h < homeCount g e → (b : ℕ) → Outside g b → getD (made v (homeStore g v e h)) b 0 ≡ getD v b 0
-  home-outside zero l b o = getD-patch v (dataAt g (e .sector) * 512) (e .bytes) b data-fits (rw whole (o .contents (e .sector) low))
+  home-outside zero l b o = getD-patch-other v (dataAt g (e .sector) * 512) (e .bytes) data-fits b (rw whole (o .contents (e .sector) low))
   home-outside (suc zero) l b o =
-      ap (λ (x : List ℕ). getD x b 0) tag-store ∙ getD-patch v (tagByte g (e .sector)) (e .tag) b tag-fits (rw sized (o .tags (e .sector) low))
+      ap (λ (x : List ℕ). getD x b 0) tag-store ∙ getD-patch-other v (tagByte g (e .sector)) (e .tag) tag-fits b (rw sized (o .tags (e .sector) low))
   home-outside (suc (suc h)) l b o = absurd (omega (arith, home-two g e))
 
   -- the homes of other sectors

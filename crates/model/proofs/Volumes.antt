@@ -1,14 +1,13 @@
 -- Volumes that have the same sectors, or the same bytes.
 use Prim.Native.Nat.{ℕ, zero, suc, _+_, _*_, _/_, _%_, _≤_, _<_}
 use mathlib.Core.Path.{_≡_, refl, sym, ap, _∙_, subst}
-use mathlib.Core.Logic.{_⊎_, inl, inr}
 use mathlib.Core.List.{List, [], _∷_, _++_}
 use native.Mathlib.Omega.{arith}
 use lib.ListN.{length, take, drop, getD, length-take, length-drop}
 use lib.Seq.{take-all, take-add, drop-drop, ext-getD}
-use Rattle.octets.specs.Parts.{part, patch}
+use Rattle.octets.specs.Parts.{part}
 use Rattle.octets.specs.Sectors.{sectorAt}
-use Rattle.octets.proofs.Parts.{getD-part, part-patch-before, part-patch-after}
+use Rattle.octets.proofs.Parts.{getD-part}
 
 -- ---- volumes with the same sectors
 
@@ -51,17 +50,6 @@ pub getD-sector : (v : List ℕ) (b : ℕ) → getD (sectorAt v (b / 512)) (b % 
 getD-sector v b =
     let e : b / 512 * 512 + b % 512 ≡ b = omega arith in
     getD-part v (b / 512 * 512) 512 (b % 512) (omega arith) ∙ ap (λ (x : ℕ). getD v x 0) e
-
--- a byte that a patch does not cover
-pub getD-patch : (l : List ℕ) (at : ℕ) (s : List ℕ) (b : ℕ) → at + length s ≤ length l → (b < at) ⊎ (at + length s ≤ b) → getD (patch l at s) b 0 ≡ getD l b 0
-getD-patch l at s b fits h =
-    let z : b + 0 ≡ b = omega arith in
-    let one : part (patch l at s) b 1 ≡ part l b 1 = side h in
-    (rw z at (sym (getD-part (patch l at s) b 1 0 (omega arith)) ∙ ap (λ (x : List ℕ). getD x 0 0) one ∙ getD-part l b 1 0 (omega arith)))
-  where
-    side : (b < at) ⊎ (at + length s ≤ b) → part (patch l at s) b 1 ≡ part l b 1
-    side (inl q) = part-patch-before l at s fits b 1 (omega arith)
-    side (inr q) = part-patch-after l at s fits b 1 q
 
 -- parts that agree byte by byte
 pub part-bytes : (x y : List ℕ) (a n : ℕ) → length x ≡ length y → ((i : ℕ) → i < n → getD x (a + i) 0 ≡ getD y (a + i) 0) → part x a n ≡ part y a n

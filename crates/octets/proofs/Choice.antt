@@ -35,6 +35,10 @@ module _ {A : Type 0} where
   first-append [] more z = refl
   first-append (row ∷ rows) more z = rw (first-append rows more z)
 
+  pub none-append : (rows more : List (Bool × A)) (z : A) → NoneAnswers rows z → NoneAnswers more z → NoneAnswers (rows ++ more) z
+  none-append [] more z a b = b
+  none-append (row ∷ rows) more z a b = (a .0, none-append rows more z (a .1) b)
+
   -- where the answer is not the last one, it is that of a row, whatever the last one is
   pub met : (rows : List (Bool × A)) (a y z : A) → a ≢ y → firstMet rows y ≡ a → firstMet rows z ≡ a
   met [] a y z n e = absurd (n (sym e))

@@ -5,3 +5,4 @@ pub mod Sectors
 pub mod Choice
 pub mod Answers
 pub mod Turns
+pub mod Tables

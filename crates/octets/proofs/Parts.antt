@@ -4,7 +4,7 @@ use Prim.Native.Nat.{ℕ, zero, suc, _+_, _-_, _≤_, _<_}
 use native.Mathlib.Omega.{arith}
 use mathlib.Core.Bool.{Bool, true, false, _&&_}
 use mathlib.Core.List.{List, [], _∷_, _++_, append-assoc, append-nil}
-use mathlib.Core.Logic.{_≢_}
+use mathlib.Core.Logic.{_≢_, _⊎_, inl, inr}
 use mathlib.Core.Path.{_≡_, refl, sym, ap, _∙_, subst}
 use lib.Dec.{eqb}
 use lib.ListN.{length, take, drop, getD, replicate, length-append, length-drop, length-replicate, replicate-append-replicate, take-append-drop, drop-of-length-le}
@@ -86,6 +86,11 @@ module _ (l : List ℕ) (at : ℕ) (s : List ℕ) (fits : at + length s ≤ leng
       ∙ sym (part-append-left (take at l) (drop at l) b n g)
       ∙ ap (λ (x : List ℕ). part x b n) (take-append-drop at l)
 
+  -- a byte of what replaces it
+  pub getD-patch-same : (i : ℕ) → i < length s → getD (patch l at s) (at + i) 0 ≡ getD s i 0
+  getD-patch-same i h =
+      sym (getD-part (patch l at s) at (length s) i h) ∙ ap (λ (x : List ℕ). getD x i 0) (part-patch-same (length s) refl)
+
   -- what lies behind it
   pub drop-patch-after : (b : ℕ) → at + length s ≤ b → drop b (patch l at s) ≡ drop b l
   drop-patch-after b h =
@@ -97,6 +102,16 @@ module _ (l : List ℕ) (at : ℕ) (s : List ℕ) (fits : at + length s ≤ leng
   -- a part behind it
   pub part-patch-after : (b n : ℕ) → at + length s ≤ b → part (patch l at s) b n ≡ part l b n
   part-patch-after b n h = ap (take n) (drop-patch-after b h)
+
+  -- a byte before or behind it
+  pub getD-patch-other : (b : ℕ) → (b < at) ⊎ (at + length s ≤ b) → getD (patch l at s) b 0 ≡ getD l b 0
+  getD-patch-other b h =
+      let z : b + 0 ≡ b = omega arith in
+      rw z at (sym (getD-part (patch l at s) b 1 0 (omega arith)) ∙ ap (λ (x : List ℕ). getD x 0 0) (side h) ∙ getD-part l b 1 0 (omega arith))
+    where
+      side : (b < at) ⊎ (at + length s ≤ b) → part (patch l at s) b 1 ≡ part l b 1
+      side (inl q) = part-patch-before b 1 (omega arith)
+      side (inr q) = part-patch-after b 1 q
 
 drop-take : (i n : ℕ) (l : List ℕ) → i ≤ length (take n l) → drop i (take n l) ++ drop n l ≡ drop i l
 drop-take i n l h = sym (drop-append-le i (take n l) (drop n l) h) ∙ ap (drop i) (take-append-drop n l)

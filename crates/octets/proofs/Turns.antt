@@ -1,14 +1,14 @@
--- One turn of each loop over bytes, over plain lists.
+-- One turn of each loop over bytes, and of one that fills in an array, over plain lists.
 use Prim.Native.Nat.{ℕ, suc, _+_, _-_, _*_, _/_, _%_, _^_, _≤_, _<_}
 use native.Mathlib.Nat.{pow-suc, pow-le-pow-right}
 use native.Mathlib.Numerals.{add-one}
 use native.Mathlib.Omega.{arith}
 use mathlib.Core.Bool.{true, false}
-use mathlib.Core.List.{List, _∷_}
+use mathlib.Core.List.{List, _∷_, _++_}
 use mathlib.Core.Logic.{_≢_}
 use mathlib.Core.Path.{_≡_, sym, ap, _∙_}
-use lib.ListN.{length, drop, getD, set}
-use lib.Seq.{drop-cons, drop-drop, getD-drop, paste, paste-suc, ext-getD}
+use lib.ListN.{length, take, drop, getD, set, replicate, take-append-drop}
+use lib.Seq.{drop-cons, drop-drop, drop-set-lt, getD-drop, paste, paste-suc, ext-getD}
 use Rattle.octets.specs.Numbers.{le, value}
 use Rattle.octets.specs.Parts.{part, same}
 use Rattle.octets.proofs.Parts.{length-part, getD-part, eq-same, ne-same}
@@ -39,6 +39,16 @@ number-fits n i v l p h =
 pub turn : (d : List ℕ) (at : ℕ) (w : List ℕ) → at + length w ≤ length d
     → (e : List ℕ) (i x : ℕ) → i < length w → x ≡ getD w i 0 → e ≡ paste d at w i → set e (at + i) x ≡ paste d at w (i + 1)
 turn d at w fits e i x l q r = rw (q, r, add-one) (paste-suc d at w i 0 (omega arith) l)
+
+-- ---- a loop that fills in an array of n elements: z stands behind the first j
+
+pub rest-turn : {A : Type 0} (z a : A) (r : List A) (n j : ℕ) → j < n → drop j r ≡ replicate (n - j) z → drop (j + 1) (set r j a) ≡ replicate (n - (j + 1)) z
+rest-turn z a r n j l e =
+    let next : n - j ≡ suc (n - (j + 1)) = omega arith in
+    drop-set-lt (j + 1) r j a (omega arith) ∙ sym (drop-drop 1 j r) ∙ ap (drop 1) (e ∙ ap (λ (k : ℕ). replicate k z) next)
+
+pub rest-end : {A : Type 0} (z : A) (r xs : List A) (n j k : ℕ) → n - j ≡ k → take j r ≡ xs → drop j r ≡ replicate (n - j) z → r ≡ xs ++ replicate k z
+rest-end z r xs n j k e front rest = sym (take-append-drop j r) ∙ rw (front, rest, e)
 
 -- ---- a loop that writes a number: what is left of x's bytes is the bytes of what is left of x
 

@@ -1,7 +1,13 @@
 -- Choice by tests. R69: a refusal is given exactly where its rule is the first that is met. A call's rules are rows of a test and an answer, in the
 -- call's order.
-use mathlib.Core.Bool.{Bool, true, false}
+use Prim.Native.Nat.{ℕ}
+use mathlib.Core.Bool.{Bool, true, false, not}
 use mathlib.Core.List.{List, [], _∷_}
+use lib.Dec.{eqb}
+
+-- whether m and n differ
+abbrev pub differs : ℕ → ℕ → Bool
+differs m n = not (eqb m n)
 
 -- a where the test is true, else b
 abbrev pub pick {ℓ} : {A : Type ℓ} → Bool → A → A → A

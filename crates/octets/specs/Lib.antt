@@ -4,3 +4,4 @@ pub mod Sectors
 pub mod Choice
 pub mod Lists
 pub mod Answer
+pub mod Tables

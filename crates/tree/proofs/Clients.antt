@@ -9,9 +9,9 @@ use Rattle.octets.specs.Answer.{taken}
 use Rattle.tree.specs.declared.Answer as code
 use Rattle.tree.specs.declared.Answer.the-variants.{LevelDiffers}
 use Rattle.tree.specs.Answer.{answerOf, mismatch}
-use Rattle.tree.specs.Places.{levelsOf, placesOf, treeLength}
-use Rattle.tree.specs.Tree.{blockOf}
-use Rattle.tree.specs.Path.{computedOf, standingOf}
+use Rattle.tree_path.specs.Places.{levelsOf, placesOf, treeLength}
+use Rattle.tree_path.specs.Tree.{blockOf}
+use Rattle.tree_path.specs.Path.{computedOf, standingOf}
 use Rattle.tree.specs.Build.{buildOf}
 use Rattle.tree.specs.Verify.{verifyOf}
 use Rattle.tree.specs.Acceptance.{Fits, Acceptable}

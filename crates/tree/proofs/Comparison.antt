@@ -3,7 +3,7 @@ use Prim.Native.Nat.{ℕ, zero, suc, _+_, _<_}
 use native.Mathlib.Nat.{add-zero}
 use native.Mathlib.Omega.{arith}
 use mathlib.Core.Bool.{Bool, true, false, not}
-use mathlib.Core.List.{List, [], _∷_, _++_}
+use mathlib.Core.List.{List, [], _∷_}
 use mathlib.Core.Logic.{_≢_}
 use mathlib.Core.Path.{_≡_, refl, ap, _∙_}
 use lib.IntN.{ℤ}
@@ -11,18 +11,14 @@ use lib.ListN.{length, getD}
 use lib.Seq.{ext-getD}
 use Rattle.octets.specs.Answer.{Answer, taken, numberIn}
 use Rattle.octets.specs.Choice.{pick, firstMet}
-use Rattle.octets.proofs.Choice.{NoneAnswers, first-append}
+use Rattle.octets.proofs.Choice.{NoneAnswers, none-append, first-append}
 use Rattle.octets.specs.Parts.{same}
 use Rattle.octets.proofs.Parts.{same-true, same-false, eq-same, ne-same}
 use Rattle.tree.specs.Answer.{mismatch}
 use Rattle.tree.specs.Verify.{pathRows, comparedOf}
 use Rattle.tree.specs.Theorems.{DiffersAt}
 
--- ---- rows, one list after another
-
-none-append : {A : Type 0} (p q : List (Bool × A)) (z : A) → NoneAnswers p z → NoneAnswers q z → NoneAnswers (p ++ q) z
-none-append [] q z a b = b
-none-append (row ∷ p) q z a b = (a .0, none-append p q z (a .1) b)
+-- ---- a refusal is not taken
 
 pub mismatch-refused : (k : ℕ) → mismatch k ≢ taken tt
 mismatch-refused k e =

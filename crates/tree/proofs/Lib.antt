@@ -1,9 +1,5 @@
-pub mod PlaceLaws
-pub mod TreeLaws
-pub mod LevelLaws
-pub mod PathLaws
+pub mod CompareLaws
 pub mod Returns
 pub mod Comparison
-pub mod Acceptance
 pub mod Theorems
 pub mod Clients

@@ -1,4 +1,4 @@
--- What each rule leads to: one law to a return of length, build and verify, under the tests that were passed before it.
+-- What each rule leads to: one law to a return of build and verify, under the tests that were passed before it.
 use Prim.Native.Nat.{ℕ, _*_, _≤_, _<_}
 use mathlib.Core.List.{List, []}
 use mathlib.Core.Logic.{_≢_}
@@ -6,24 +6,11 @@ use mathlib.Core.Path.{_≡_}
 use lib.ListN.{length}
 use borrow.Author.Tests.{eq-eqb, ne-eqb, lt-ltb, le-ltb, le-leb, lt-leb}
 use Rattle.octets.specs.Answer.{refuse}
-use Rattle.tree.specs.Places.{blockSize, digestSize, mostBlocks, longestSalt, levelsOf, placesOf, treeLength, lengthOf}
-use Rattle.tree.specs.Path.{computedOf, standingOf}
+use Rattle.digest.specs.Sha256.{digestSize}
+use Rattle.tree_path.specs.Places.{blockSize, mostBlocks, longestSalt, levelsOf, placesOf, treeLength}
+use Rattle.tree_path.specs.Path.{computedOf, standingOf}
 use Rattle.tree.specs.Build.{refusedWith, builtOf, buildOf}
 use Rattle.tree.specs.Verify.{comparedOf, verifyOf}
-
-module _ (n : ℕ) where
-  pub length-none : n ≡ 0 → 0 ≡ lengthOf n
-  unfolding lengthOf
-  length-none h = rw (eq-eqb n 0 h)
-
-  module _ (some : n ≢ 0) where
-    pub length-many : mostBlocks < n → 0 ≡ lengthOf n
-    unfolding lengthOf
-    length-many h = rw (ne-eqb n 0 some, lt-ltb mostBlocks n h)
-
-    pub length-of : {k : ℕ} → n ≤ mostBlocks → k ≡ treeLength n → k ≡ lengthOf n
-    unfolding lengthOf
-    length-of h e = rw (ne-eqb n 0 some, le-ltb mostBlocks n h) e
 
 module _ (b : List ℕ) (i : ℕ) (t : List ℕ) (n : ℕ) (s r : List ℕ) where
   pub verify-block : length b ≢ blockSize → refuse 1 [] ≡ verifyOf b i t n s r

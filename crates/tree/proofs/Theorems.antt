@@ -14,19 +14,20 @@ use Rattle.octets.proofs.Choice.{Unmet, unmet}
 use Rattle.octets.proofs.Parts.{length-part}
 use Rattle.tree.specs.declared.Answer as code
 use Rattle.tree.specs.declared.Answer.the-variants.{Taken, WrongLength, OutOfRange, DataDiffers, LevelDiffers}
-use Rattle.tree.specs.Places.{blockSize, digestSize, mostBlocks, longestSalt, levelsOf, placesOf, treeLength}
-use Rattle.tree.specs.Tree.{blockOf, treeOf, rootOf}
-use Rattle.tree.specs.Path.{risersOf, computedOf, standingOf}
+use Rattle.digest.specs.Sha256.{digestSize}
+use Rattle.tree_path.specs.Places.{blockSize, mostBlocks, longestSalt, levelsOf, placesOf, treeLength}
+use Rattle.tree_path.specs.Tree.{blockOf, treeOf, rootOf}
+use Rattle.tree_path.specs.Path.{computedOf, standingOf, Verifies}
 use Rattle.tree.specs.Answer.{levelAt, mismatch, answerOf}
 use Rattle.tree.specs.Build.{BuildOutcome, builtOf, buildOf}
 use Rattle.tree.specs.Verify.{loanRows, pathRows, comparedOf, verifyOf}
-use Rattle.tree.specs.Acceptance.{Verifies, Fits, Acceptable}
+use Rattle.tree.specs.Acceptance.{Fits, Acceptable}
 use Rattle.tree.specs.Theorems.{AnswersDiffer, AcceptsExactly, BuiltIsAccepted, DiffersAt, NamesHighest}
-use Rattle.tree.proofs.PlaceLaws.{levels-top}
-use Rattle.tree.proofs.TreeLaws.{length-tree, length-root}
-use Rattle.tree.proofs.PathLaws.{length-standing}
+use Rattle.tree_path.proofs.PlaceLaws.{levels-top}
+use Rattle.tree_path.proofs.TreeLaws.{length-tree, length-root}
+use Rattle.tree_path.proofs.PathLaws.{length-computed, length-standing}
 use Rattle.tree.proofs.Comparison.{Compared, agree, differ, compared, mismatch-refused, path-refuses, agree-taken, differ-named}
-use Rattle.tree.proofs.Acceptance.{path-agrees, path-verifies, built-verifies}
+use Rattle.tree_path.proofs.Acceptance.{path-agrees, path-verifies, built-verifies}
 use Rattle.tree.proofs.Returns.{verify-path, build-made}
 
 -- ---- answers
@@ -62,12 +63,7 @@ module _ (b : List ℕ) (i : ℕ) (t : List ℕ) (n : ℕ) (s r : List ℕ) wher
   standingHere = standingOf r t (placesOf (levelsOf n) n i)
 
   as-long : length computedHere ≡ length standingHere
-  unfolding risersOf
-  as-long = omega (arith, length-risers (placesOf (levelsOf n) n i), length-standing r t (placesOf (levelsOf n) n i))
-    where
-      length-risers : (ps : List ℕ) → length (risersOf s t ps) ≡ length ps
-      length-risers [] = refl
-      length-risers (p ∷ ps) = ap suc (length-risers ps)
+  as-long = length-computed s t b (placesOf (levelsOf n) n i) ∙ sym (length-standing r t (placesOf (levelsOf n) n i))
 
   fitting : Fits b i t n s r → verifyOf b i t n s r ≡ comparedOf computedHere standingHere
   fitting f =

@@ -5,16 +5,17 @@
 -- buildRows n s d t     : the refusals for the count n, salt s, image d and tree loan t, in order
 -- buildOf n s d t       : what the call does. Refused, it leaves the loan as it was, and the root digest is zeros
 use Prim.Native.Nat.{ℕ, _*_}
-use mathlib.Core.Bool.{Bool, not}
+use mathlib.Core.Bool.{Bool}
 use mathlib.Core.List.{List, [], _∷_}
 use lib.Dec.{eqb, ltb}
 use lib.IntN.{ℤ}
 use lib.ListN.{length, replicate}
 use Rattle.octets.specs.Answer.{Answer, taken, refuse}
-use Rattle.octets.specs.Choice.{firstMet}
+use Rattle.octets.specs.Choice.{differs, firstMet}
 use Rattle.tree.specs.declared.Built.{Built}
-use Rattle.tree.specs.Places.{blockSize, digestSize, mostBlocks, longestSalt, levelsOf, treeLength}
-use Rattle.tree.specs.Tree.{treeOf, rootOf}
+use Rattle.digest.specs.Sha256.{digestSize}
+use Rattle.tree_path.specs.Places.{blockSize, mostBlocks, longestSalt, levelsOf, treeLength}
+use Rattle.tree_path.specs.Tree.{treeOf, rootOf}
 use Rattle.tree.specs.Answer.{answerOf}
 
 pub record BuildOutcome : Type 0 where
@@ -33,8 +34,8 @@ buildRows n s d t =
     (eqb n 0, refusedWith 2 t) ∷
     (ltb mostBlocks n, refusedWith 2 t) ∷
     (ltb longestSalt (length s), refusedWith 2 t) ∷
-    (not (eqb (length d) (n * blockSize)), refusedWith 1 t) ∷
-    (not (eqb (length t) (treeLength n)), refusedWith 1 t) ∷ []
+    (differs (length d) (n * blockSize), refusedWith 1 t) ∷
+    (differs (length t) (treeLength n), refusedWith 1 t) ∷ []
 
 abbrev pub builtOf : ℕ → List ℕ → List ℕ → BuildOutcome
 builtOf n s d = record { answer = taken tt; root = rootOf (levelsOf n) s n d; tree = treeOf (levelsOf n) s n d }

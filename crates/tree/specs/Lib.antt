@@ -1,6 +1,3 @@
-pub mod Places
-pub mod Tree
-pub mod Path
 pub mod Answer
 pub mod Build
 pub mod Verify

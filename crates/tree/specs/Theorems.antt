@@ -5,9 +5,9 @@ use mathlib.Core.Logic.{_≢_}
 use mathlib.Core.Path.{_≡_}
 use lib.ListN.{length, getD}
 use Rattle.octets.specs.Answer.{taken}
-use Rattle.tree.specs.Places.{blockSize, mostBlocks, longestSalt, levelsOf, placesOf, treeLength}
-use Rattle.tree.specs.Tree.{blockOf}
-use Rattle.tree.specs.Path.{computedOf, standingOf}
+use Rattle.tree_path.specs.Places.{blockSize, mostBlocks, longestSalt, levelsOf, placesOf, treeLength}
+use Rattle.tree_path.specs.Tree.{blockOf}
+use Rattle.tree_path.specs.Path.{computedOf, standingOf}
 use Rattle.tree.specs.declared.Answer as code
 use Rattle.tree.specs.Answer.{mismatch, answerOf}
 use Rattle.tree.specs.Build.{buildOf}

@@ -12,21 +12,22 @@ use lib.Dec.{eqb, ltb, leb}
 use lib.IntN.{ℤ}
 use lib.ListN.{length}
 use Rattle.octets.specs.Answer.{Answer, taken, refuse}
-use Rattle.octets.specs.Choice.{firstMet}
+use Rattle.octets.specs.Choice.{differs, firstMet}
 use Rattle.octets.specs.Parts.{same}
-use Rattle.tree.specs.Places.{blockSize, digestSize, mostBlocks, longestSalt, levelsOf, placesOf, treeLength}
-use Rattle.tree.specs.Path.{computedOf, standingOf}
+use Rattle.digest.specs.Sha256.{digestSize}
+use Rattle.tree_path.specs.Places.{blockSize, mostBlocks, longestSalt, levelsOf, placesOf, treeLength}
+use Rattle.tree_path.specs.Path.{computedOf, standingOf}
 use Rattle.tree.specs.Answer.{mismatch}
 
 abbrev pub loanRows : List ℕ → ℕ → List ℕ → ℕ → List ℕ → List ℕ → List (Bool × Answer ℤ (Unit {0}))
 loanRows b i t n s r =
-    (not (eqb (length b) blockSize), refuse 1 []) ∷
-    (not (eqb (length r) digestSize), refuse 1 []) ∷
+    (differs (length b) blockSize, refuse 1 []) ∷
+    (differs (length r) digestSize, refuse 1 []) ∷
     (eqb n 0, refuse 2 []) ∷
     (ltb mostBlocks n, refuse 2 []) ∷
     (ltb longestSalt (length s), refuse 2 []) ∷
     (leb n i, refuse 2 []) ∷
-    (not (eqb (length t) (treeLength n)), refuse 1 []) ∷ []
+    (differs (length t) (treeLength n), refuse 1 []) ∷ []
 
 unfoldable pub pathRows : ℕ → List (List ℕ) → List (List ℕ) → List (Bool × Answer ℤ (Unit {0}))
 pathRows k [] ys = []

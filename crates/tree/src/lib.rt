@@ -1,17 +1,18 @@
 // The hash tree over a read-only image, after dm-verity: document 01, "Hash tree"; source document 003, version 1.
 //
 // What each call returns is defined in specs/Build.antt and specs/Verify.antt, and what is proved of the two together is stated in
-// specs/Theorems.antt. Counts and indexes are usize, 64 bits on every target: none is cut off before it is tested.
-mod level;
-mod path;
-mod places;
+// specs/Theorems.antt. The length of a tree is passed on from crate tree_path. Counts and indexes are usize, 64 bits on every target: none is cut off
+// before it is tested.
+mod compare;
 
-ghost use Prim.Native.Nat.{_≤_};
+use digest::DIGEST_SIZE;
+use tree_path::path;
+use tree_path::places;
+pub use tree_path::places::length;
 ghost use mathlib.Core.Path.{_≡_};
-ghost use lib.ListN.{length, replicate};
+ghost use lib.ListN.{replicate};
 ghost use Rattle.octets.specs.Answer.{numberIn};
-ghost use Rattle.tree.specs.Places.{blockSize, digestSize, longestSalt, lengthOf};
-ghost use Rattle.tree.specs.Tree.{blockDigest};
+ghost use Rattle.digest.specs.Sha256.{digestSize};
 ghost use Rattle.tree.specs.Answer.{answerOf};
 ghost use Rattle.tree.specs.Build.{outcomeOf, buildOf};
 ghost use Rattle.tree.specs.Verify.{verifyOf};
@@ -33,7 +34,7 @@ pub enum Answer {
 // What building returns; the root digest is zeros where the answer is a refusal. (An enum can't hold an array, so it stands beside the answer.)
 pub struct Built {
     pub answer: Answer,
-    pub root: [u8; 32],
+    pub root: [u8; DIGEST_SIZE],
 }
 
 // The number of an answer in document 01; 0 where it is no refusal.
@@ -49,35 +50,13 @@ pub fn number(a: Answer) -> u32
     }
 }
 
-// The length in bytes of the tree over n data blocks; 0 where there cannot be so many.
-pub fn length(n: usize) -> usize
-    ensures { λ r. ⌜ r ≡ lengthOf n ⌝ }
-{
-    if n == 0 {
-        return 0;
-    }
-    if places::MOST_BLOCKS < n {
-        return 0;
-    }
-    places::tree_length(n)
-}
-
-// The digest of a block, the salt being put before it. Callers have tested both lengths.
-pub(crate) fn block_digest(salt: &[u8], block: &[u8]) -> [u8; 32]
-    requires { ⌜ (length (now salt) ≤ longestSalt) × (length (now block) ≤ blockSize) ⌝ }
-    ensures { λ r. ⌜ (r ≡ blockDigest (now (salt .entry)) (now (block .entry))) × (length r ≡ 32) ⌝ }
-{
-    let closed = digest::sha256_of_two(salt, block);
-    closed.digest
-}
-
 // What building returns where it is refused.
 fn refused(a: Answer) -> Built
     ensures { λ r. ⌜ (r .answer ≡ a) × (r .root ≡ replicate digestSize 0) ⌝ }
 {
     Built {
         answer: a,
-        root: [0u8; 32],
+        root: [0u8; DIGEST_SIZE],
     }
 }
 
@@ -100,7 +79,7 @@ pub fn build(count: usize, salt: &[u8], image: &[u8], tree: &mut [u8]) -> Built
     if tree.len() != places::tree_length(count) {
         return refused(Answer::WrongLength);
     }
-    let root = level::fill(tree, count, salt, image);
+    let root = tree_levels::fill(tree, count, salt, image);
     Built {
         answer: Answer::Taken,
         root: root,
@@ -121,7 +100,7 @@ pub fn verify(
     if block.len() != places::BLOCK_SIZE {
         return Answer::WrongLength;
     }
-    if root.len() != places::DIGEST_SIZE {
+    if root.len() != DIGEST_SIZE {
         return Answer::WrongLength;
     }
     if count == 0 {
@@ -142,5 +121,5 @@ pub fn verify(
     let h = places::levels(count);
     let at = path::places(h, count, index);
     let digests = path::computed(h, salt, tree, block, at);
-    path::compare(h, digests, at, tree, root)
+    compare::compare(h, digests, at, tree, root)
 }

@@ -17,7 +17,7 @@ use Rattle.octets.proofs.Parts.{patch-all}
 use Rattle.tree.specs.declared.Answer as code
 use Rattle.tree.specs.declared.Answer.the-variants.{Taken, WrongLength, OutOfRange, DataDiffers, LevelDiffers}
 use Rattle.tree.specs.declared.Built.{Built}
-use Rattle.tree.specs.Places.{digestSize}
+use Rattle.digest.specs.Sha256.{digestSize}
 use Rattle.tree.specs.Answer.{answerOf}
 use Rattle.tree.specs.Build.{BuildOutcome, outcomeOf, buildRows, builtOf, buildOf}
 use Rattle.tree.specs.Verify.{verifyOf}

@@ -19,7 +19,8 @@ use lib.ListN.{length}
 use Rattle.octets.specs.Numbers.{le, value}
 use Rattle.octets.specs.Answer.{Answer, taken, refused, isTaken, numberIn}
 use Rattle.octets.specs.Choice.{pick, firstMet}
-use Rattle.tree.specs.Places.{digestSize, lengthOf}
+use Rattle.digest.specs.Sha256.{digestSize}
+use Rattle.tree_path.specs.Places.{lengthOf}
 use Rattle.tree.specs.Build.{buildOf}
 use Rattle.tree.specs.Verify.{verifyOf}
 use Rattle.buffers.specs.Done.{done}

@@ -4,9 +4,9 @@
 // from byte 8,224 on. The data block is block 5 where nothing else is said; its digest stands at byte 4,256.
 use crate::report;
 use crate::span;
+use digest::DIGEST_SIZE;
 use libc::STDOUT_FILENO;
-
-const BLOCK: usize = 4096;
+use tree_path::places::BLOCK_SIZE;
 
 const COUNT: usize = 129;
 
@@ -79,11 +79,11 @@ fn blocks(five: &[u8], last: &[u8], tree: &[u8], salts: &[u8], root: &[u8]) {
 
 // A bit of the data block and of the root digest.
 fn digests(five: &[u8], tree: &[u8], salt: &[u8], root: &[u8]) {
-    let mut damaged = [0u8; BLOCK];
+    let mut damaged = [0u8; BLOCK_SIZE];
     copy(&mut damaged, five);
     flip(&mut damaged, 100);
     block(b"bit of the data block", &damaged, 5, tree, salt, root);
-    let mut other = [0u8; 32];
+    let mut other = [0u8; DIGEST_SIZE];
     copy(&mut other, root);
     flip(&mut other, 31);
     block(b"bit of the root digest", five, 5, tree, salt, &other);

@@ -8,11 +8,10 @@
 mod damage;
 mod report;
 
+use digest::DIGEST_SIZE;
 use libc::STDOUT_FILENO;
+use tree_path::places::BLOCK_SIZE;
 ghost use Prim.Native.Nat.{_≤_};
-
-// The length of a block, in bytes.
-const BLOCK: usize = 4096;
 
 // The bytes of the image, 300 blocks.
 const IMAGE: usize = 1228800;
@@ -40,7 +39,7 @@ fn lines(image: &mut [u8]) {
 fn fill_image(s: &mut [u8]) {
     let mut i: usize = 0;
     while i < s.len() {
-        s[i] = ((7 * (i % 256) + 13 * (i / BLOCK % 256)) % 256) as u8;
+        s[i] = ((7 * (i % 256) + 13 * (i / BLOCK_SIZE % 256)) % 256) as u8;
         i += 1;
     }
 }
@@ -76,7 +75,7 @@ fn trees(image: &[u8], salt: &[u8]) {
 fn salts(image: &[u8], salt: &[u8], count: usize, tree: &mut [u8], blocks: usize)
     requires { ⌜ (count ≤ 300) × (blocks ≤ 4) ⌝ }
 {
-    let all = span(image, 0, count * BLOCK);
+    let all = span(image, 0, count * BLOCK_SIZE);
     vector(all, span(salt, 0, 0), count, tree, blocks);
     vector(all, span(salt, 0, 8), count, tree, blocks);
     vector(all, span(salt, 0, 32), count, tree, blocks);
@@ -86,7 +85,7 @@ fn salts(image: &[u8], salt: &[u8], count: usize, tree: &mut [u8], blocks: usize
 fn vector(image: &[u8], salt: &[u8], count: usize, tree: &mut [u8], blocks: usize)
     requires { ⌜ (count ≤ 300) × (blocks ≤ 4) ⌝ }
 {
-    let size = blocks * BLOCK;
+    let size = blocks * BLOCK_SIZE;
     if size <= tree.len() {
         line(image, salt, count, &mut tree[..size]);
     }
@@ -100,28 +99,29 @@ fn line(image: &[u8], salt: &[u8], count: usize, tree: &mut [u8])
     report::number(b"count ", count);
     report::number(b" salt ", salt.len());
     io::write_all(STDOUT_FILENO, b" root ");
-    report::hex(root);
+    hexadecimal::print(&root);
     io::write_all(STDOUT_FILENO, b" tree ");
-    report::hex(digest_of(tree));
+    let sum = digest_of(tree);
+    hexadecimal::print(&sum);
     let n = accepted(image, salt, count, tree, root);
     report::number(b" accepted ", n);
     io::write_all(STDOUT_FILENO, b"\n");
 }
 
-fn digest_of(s: &[u8]) -> [u8; 32] {
+fn digest_of(s: &[u8]) -> [u8; DIGEST_SIZE] {
     let closed = digest::sha256(s);
     closed.digest
 }
 
 // How many blocks of the image are accepted at their own index.
-fn accepted(image: &[u8], salt: &[u8], count: usize, tree: &[u8], root: [u8; 32]) -> usize
+fn accepted(image: &[u8], salt: &[u8], count: usize, tree: &[u8], root: [u8; DIGEST_SIZE]) -> usize
     requires { ⌜ count ≤ 300 ⌝ }
 {
     let mut n: usize = 0;
     let mut i: usize = 0;
     while i < count {
-        let at = i * BLOCK;
-        n += accepts(span(image, at, at + BLOCK), i, tree, count, salt, root);
+        let at = i * BLOCK_SIZE;
+        n += accepts(span(image, at, at + BLOCK_SIZE), i, tree, count, salt, root);
         i += 1;
     }
     n
@@ -134,7 +134,7 @@ fn accepts(
     tree: &[u8],
     count: usize,
     salt: &[u8],
-    root: [u8; 32],
+    root: [u8; DIGEST_SIZE],
 ) -> usize
     ensures { λ r. ⌜ r ≤ 1 ⌝ }
 {

@@ -22,26 +22,3 @@ pub(crate) fn answer(a: Answer) {
     }
     io::write_all(STDOUT_FILENO, b"\n");
 }
-
-// A digest in hexadecimal.
-pub(crate) fn hex(d: [u8; 32]) {
-    let mut text = [0u8; 64];
-    let mut i: usize = 0;
-    while i < 32 {
-        let x = d[i];
-        text[2 * i] = digit(x / 16);
-        text[2 * i + 1] = digit(x % 16);
-        i += 1;
-    }
-    io::write_all(STDOUT_FILENO, &text);
-}
-
-// The hexadecimal digit of the low four bits of x.
-fn digit(x: u8) -> u8 {
-    let low = x % 16;
-    if low < 10 {
-        b'0' + low
-    } else {
-        b'a' + (low - 10)
-    }
-}

@@ -1,4 +1,4 @@
--- The digest's promise, R8: all that crates above may use of `sha256`. Its 32 bytes; two pieces are as the one that they make; closing after any pieces
+-- The digest's promise, R8: all that crates above may use of `sha256`. It has `digestSize` bytes; two pieces are as the one that they make; closing after any pieces
 -- gives the digest of their concatenation.
 use Prim.Native.Nat.{ℕ, _+_, _/_, _≤_, _<_}
 use native.Mathlib.Nat.{zero-add}
@@ -14,12 +14,12 @@ use Rattle.compression.specs.Constants.{initialHash}
 use Rattle.compression.specs.Compression.{hashOf}
 use Rattle.digest.specs.Padding.{paddingOf, bytesOf}
 use Rattle.digest.specs.Pieces.{limit, freshOf, absorbOf, refusedPieceOf, updateOf, closeOf, finishOf, digestOf}
-use Rattle.digest.specs.Sha256.{sha256, paddedOf}
+use Rattle.digest.specs.Sha256.{digestSize, sha256, paddedOf}
 use Rattle.digest.specs.Sha256.Laws.{length-hash, length-bytesOf, bytes-bytesOf, absorb-append, words-absorb, fresh-holds-nothing}
 
 -- ---- the digest's bytes
 
-pub length-sha256 : (m : List ℕ) → length (sha256 m) ≡ 32
+pub length-sha256 : (m : List ℕ) → length (sha256 m) ≡ digestSize
 unfolding sha256
 length-sha256 m =
     let words : length (hashOf (length (paddedOf m) / 64) initialHash (paddedOf m)) ≡ 8 = length-hash _ initialHash (paddedOf m) refl in

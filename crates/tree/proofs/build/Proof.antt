@@ -7,7 +7,7 @@ use denote.Ref.{now}
 use borrow.Author.Needs.{needs}
 use Rattle.tree.specs.declared.Answer.{Answer}
 use Rattle.tree.specs.declared.Built.{Built}
-use Rattle.tree.specs.Places.{digestSize}
+use Rattle.digest.specs.Sha256.{digestSize}
 use Rattle.tree.specs.Answer.{answerOf}
 use Rattle.tree.specs.Build.{outcomeOf}
 use Rattle.tree.proofs.Returns.{build-none, build-many, build-salt, build-image, build-tree, build-made}

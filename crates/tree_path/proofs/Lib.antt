@@ -1,0 +1,4 @@
+pub mod PlaceLaws
+pub mod TreeLaws
+pub mod PathLaws
+pub mod Acceptance
