@@ -61,7 +61,7 @@ module _ (s v st : List ℕ) (k : ℕ) (a : List ℕ) where
 
     pub advance-made : encodesState s ≡ true → (d : State) → d ≡ decodeOf s → (o : Advanced) (f : ℕ) (s' v' st' : List ℕ)
         → advanced o v' st' ≡ advanceOf k d v st → s' ≡ encodeOf (o .state) → f ≡ pick (o .acknowledged) 1 0
-        → Replied (stepReply (stepAnswer (o .answer)) (o .stores) f) n a'
+        → Replied (stepReply (stepAnswer (o .answer)) (o .done) f) n a'
         → record { number = n; state = s'; volume = v'; staging = st'; answer = a' } ≡ advanceCall s v st k a
     unfolding advanceCall
     advance-made h d ed o f s' v' st' e es ef p =

@@ -59,9 +59,9 @@ stepCall s v st a =
     [])
     (stepLeaves v (stepOf (decodeOf s) v st))
 
--- also how many stores were made, and whether a step acknowledged the batch, where the last step is refused too
+-- also how many steps did something, and whether a step acknowledged the batch, where the last step is refused too
 abbrev pub advanceReply : AdvanceResult → Reply
-advanceReply o = stepReply (o .answer) (o .stores) (pick (o .acknowledged) 1 0)
+advanceReply o = stepReply (o .answer) (o .done) (pick (o .acknowledged) 1 0)
 
 -- state, volume and staging are as the steps before a refused one left them
 abbrev pub advanceLeaves : AdvanceResult → StepCall

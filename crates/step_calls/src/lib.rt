@@ -67,10 +67,7 @@ pub fn advance(
     encode(next, state);
     let said = advanced.answer;
     let acknowledged = flag(advanced.acknowledged);
-    put_reply(
-        step_reply(said, advanced.stores as u64, acknowledged),
-        answer,
-    )
+    put_reply(step_reply(said, advanced.done as u64, acknowledged), answer)
 }
 
 // Makes a step but for its store, which is left to the volume's owner: the answer names the sector, and its content goes to the sector's buffer. Refused

@@ -8,18 +8,18 @@ use mathlib.Core.List.{List}
 use Rattle.octets.specs.Choice.{pick}
 use Rattle.model.specs.Refusal.{stepAnswer}
 use Rattle.model.specs.World.{stepAcknowledges}
-use Rattle.model.specs.Advance.{AdvanceResult, storesIn}
+use Rattle.model.specs.Advance.{AdvanceResult, doneIn}
 use Rattle.model.specs.declared.Advanced.{Advanced}
 use Rattle.model.specs.declared.Stepped.{Stepped}
 
 abbrev pub advanced : Advanced → List ℕ → List ℕ → AdvanceResult
-advanced r v st = record { answer = stepAnswer (r .answer); stores = r .stores; acknowledged = r .acknowledged; state = r .state; volume = v; staging = st }
+advanced r v st = record { answer = stepAnswer (r .answer); done = r .done; acknowledged = r .acknowledged; state = r .state; volume = v; staging = st }
 
 abbrev pub stepAdded : Advanced → Stepped → Advanced
 stepAdded a x =
     record {
       answer = x .answer;
-      stores = a .stores + storesIn (stepAnswer (x .answer));
+      done = a .done + doneIn (stepAnswer (x .answer));
       acknowledged = pick (stepAcknowledges (stepAnswer (x .answer))) true (a .acknowledged);
       state = x .state;
     }
