@@ -5,8 +5,7 @@
  * gaffreel_answer). After a refusal every buffer is as it was, but for one that receives what the refusal also returns;
  * gaffreel_volume_advance, which is many steps, keeps those made before the refused one.
  * Each function ends for any input, and is proved to answer, and to leave in its buffers, exactly what its definition says;
- * the definitions are in the folders specs of the crates that gaffreel rests on, whose names end in _calls, and those of
- * how a state or an answer lies in its buffer in digest_state, volume_state and replies.
+ * the definitions are in the folders specs of the crates c_*, on which gaffreel rests.
  *
  * What the caller has to see to, since a C compiler cannot tell:
  *   - A pointer and the length after it are those of one buffer, in bytes, which nobody else writes to during the call.

@@ -222,11 +222,7 @@ fn messages_of_advance() {
     for (done, acknowledged, counted) in [
         (0, false, "stopped after 0 steps: "),
         (1, false, "stopped after 1 step: "),
-        (
-            90,
-            true,
-            "stopped after 90 steps, the batch acknowledged: ",
-        ),
+        (90, true, "stopped after 90 steps, the batch acknowledged: "),
     ] {
         let stopped = Stopped {
             refusal,
