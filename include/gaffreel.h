@@ -5,8 +5,7 @@
  * gaffreel_answer). After a refusal every buffer is as it was, but for one that receives what the refusal also returns;
  * gaffreel_volume_advance, which is many steps, keeps those made before the refused one.
  * Each function ends for any input, and is proved to answer, and to leave in its buffers, exactly what its definition says;
- * the definitions are in the folders specs of the crates that gaffreel rests on, whose names end in _calls, and those of
- * how a state or an answer lies in its buffer in digest_state, volume_state and replies.
+ * the definitions are in the folders specs of the crates c_*, on which gaffreel rests.
  *
  * What the caller has to see to, since a C compiler cannot tell:
  *   - A pointer and the length after it are those of one buffer, in bytes, which nobody else writes to during the call.
@@ -372,12 +371,12 @@ uint32_t gaffreel_volume_next_store(uint8_t *state, size_t state_length, const u
 
 /*
  * Makes so many steps, one after the other, as that many calls of gaffreel_volume_step would; in a recovery the journal is
- * scanned once for all of them. Once the volume is filling or a step is refused, the steps that are left change nothing.
- * Answer: the three numbers of the last step (0 where none was asked); how many stores were made, at 24; 1 where a step said
- * acknowledged, else 0, at 32.
+ * scanned once for all of them. Once a step does nothing or is refused, the steps that are left change nothing.
+ * Answer: the three numbers of the last step (0 where none was asked); how many steps did something, at 24, each a store; 1
+ * where a step said acknowledged, else 0, at 32.
  *
  * Refused as gaffreel_volume_step is, where the last step is. Steps before it may have been carried out: the answer has, at 24
- * and 32, how many stores they made and whether one said acknowledged, as where no step is refused.
+ * and 32, how many of them did something and whether one said acknowledged, as where no step is refused.
  */
 uint32_t gaffreel_volume_advance(uint8_t *state, size_t state_length, uint8_t *volume, size_t volume_length,
                                  uint8_t *staging, size_t staging_length, size_t steps, uint8_t *answer,

@@ -1,13 +1,13 @@
-// The calls of the hash tree (dm-verity, format 1), by crate tree_calls, which says what each leaves.
+// The calls of the hash tree (dm-verity, format 1), by crate c_tree, which says what each leaves.
 ghost use mathlib.Core.Path.{_≡_};
-ghost use Rattle.tree_calls.specs.HashTree.{lengthCall, buildCall, verifyCall};
+ghost use Rattle.c_tree.specs.HashTree.{lengthCall, buildCall, verifyCall};
 
 // The length in bytes of the tree over so many data blocks; 0 where there cannot be so many.
 #[no_mangle]
 pub extern "C" fn gaffreel_tree_length(count: usize) -> usize
     ensures { λ r. ⌜ r ≡ lengthCall count ⌝ }
 {
-    tree_calls::tree_length(count)
+    c_tree::tree_length(count)
 }
 
 // The tree over an image of so many data blocks, and its root digest.
@@ -19,9 +19,10 @@ pub extern "C" fn gaffreel_tree_build(
     tree: &mut [u8],
     root: &mut [u8],
 ) -> u32
-    ensures { λ r. ⌜ record { number = r; tree = now (tree .exit); root = now (root .exit) } ≡ buildCall count (now (salt .entry)) (now (image .entry)) (now (tree .entry)) (now (root .entry)) ⌝ }
+    ensures { λ r. ⌜ record { number = r; tree = now (tree .exit); root = now (root .exit) }
+        ≡ buildCall count (now (salt .entry)) (now (image .entry)) (now (tree .entry)) (now (root .entry)) ⌝ }
 {
-    tree_calls::build(count, salt, image, tree, root)
+    c_tree::build(count, salt, image, tree, root)
 }
 
 // Whether the data block with this index verifies.
@@ -35,7 +36,8 @@ pub extern "C" fn gaffreel_tree_verify(
     root: &[u8],
     level: &mut [u8],
 ) -> u32
-    ensures { λ r. ⌜ record { number = r; buffer = now (level .exit) } ≡ verifyCall (now (block .entry)) index (now (tree .entry)) count (now (salt .entry)) (now (root .entry)) (now (level .entry)) ⌝ }
+    ensures { λ r. ⌜ record { number = r; buffer = now (level .exit) }
+        ≡ verifyCall (now (block .entry)) index (now (tree .entry)) count (now (salt .entry)) (now (root .entry)) (now (level .entry)) ⌝ }
 {
-    tree_calls::verify(block, index, tree, count, salt, root, level)
+    c_tree::verify(block, index, tree, count, salt, root, level)
 }

@@ -1,5 +1,5 @@
-// The C interface: what a firmware links (include/gaffreel.h). Each module holds the exported calls of one part: those of the crates below
-// whose names end in _calls, under their names in C.
+// The C interface: what a firmware links (include/gaffreel.h). Each module holds the exported calls of one part: those of the crates c_*
+// below, under their names in C.
 //
 // A call takes numbers and byte slices, and one that can refuse answers a number: 0 where it was carried out, else that of
 // a refusal in document 01, "Refusal numbers". After a refusal every buffer is as it was, but for one that receives what the

@@ -1,8 +1,9 @@
-// The volume's calls: document 01, "Working a volume"; by crates setup_calls, batch_calls and step_calls, which say what each leaves.
+// The volume's calls: document 01, "Working a volume"; by crates c_setup, c_batch, c_read and c_step, which say what each leaves.
 ghost use mathlib.Core.Path.{_≡_};
-ghost use Rattle.setup_calls.specs.Setup.{formatCall, queryCall, openCall};
-ghost use Rattle.batch_calls.specs.Batch.{writeCall, flushCall, readCall};
-ghost use Rattle.step_calls.specs.Steps.{stepCall, advanceCall, nextStoreCall};
+ghost use Rattle.c_setup.specs.Setup.{layoutWith, formatCall, queryCall, openCall};
+ghost use Rattle.c_batch.specs.Batch.{writeCall, flushCall};
+ghost use Rattle.c_read.specs.Reads.{readCall};
+ghost use Rattle.c_step.specs.Steps.{stepBuffers, stepCall, advanceCall, nextStoreBuffers, nextStoreCall};
 
 // Formats a volume for a layout.
 #[no_mangle]
@@ -15,9 +16,10 @@ pub extern "C" fn gaffreel_volume_format(
     provided: usize,
     answer: &mut [u8],
 ) -> u32
-    ensures { λ r. ⌜ record { number = r; volume = now (v .exit); answer = now (answer .exit) } ≡ formatCall (now (v .entry)) (record { reserved = reserved; shift = shift; width = width; sections = sections; provided = provided }) (now (answer .entry)) ⌝ }
+    ensures { λ r. ⌜ record { number = r; left = now (v .exit); answer = now (answer .exit) }
+        ≡ formatCall (now (v .entry)) (layoutWith reserved shift width sections provided) (now (answer .entry)) ⌝ }
 {
-    setup_calls::format(v, reserved, shift, width, sections, provided, answer)
+    c_setup::format(v, reserved, shift, width, sections, provided, answer)
 }
 
 // The numbers that a volume's superblock holds, and the bytes that staging must have.
@@ -28,9 +30,10 @@ pub extern "C" fn gaffreel_volume_query(
     layout: &mut [u8],
     answer: &mut [u8],
 ) -> u32
-    ensures { λ r. ⌜ record { number = r; layout = now (layout .exit); answer = now (answer .exit) } ≡ queryCall (now (v .entry)) reserved (now (layout .entry)) (now (answer .entry)) ⌝ }
+    ensures { λ r. ⌜ record { number = r; left = now (layout .exit); answer = now (answer .exit) }
+        ≡ queryCall (now (v .entry)) reserved (now (layout .entry)) (now (answer .entry)) ⌝ }
 {
-    setup_calls::query(v, reserved, layout, answer)
+    c_setup::query(v, reserved, layout, answer)
 }
 
 // Opens a volume: its state, and an empty batch in staging.
@@ -42,9 +45,10 @@ pub extern "C" fn gaffreel_volume_open(
     state: &mut [u8],
     answer: &mut [u8],
 ) -> u32
-    ensures { λ r. ⌜ record { number = r; staging = now (staging .exit); state = now (state .exit); answer = now (answer .exit) } ≡ openCall (now (v .entry)) (now (staging .entry)) reserved (now (state .entry)) (now (answer .entry)) ⌝ }
+    ensures { λ r. ⌜ record { number = r; left = record { staging = now (staging .exit); state = now (state .exit) }; answer = now (answer .exit) }
+        ≡ openCall (now (v .entry)) (now (staging .entry)) reserved (now (state .entry)) (now (answer .entry)) ⌝ }
 {
-    setup_calls::open(v, staging, reserved, state, answer)
+    c_setup::open(v, staging, reserved, state, answer)
 }
 
 // Adds a sector's bytes to the batch in staging.
@@ -56,17 +60,19 @@ pub extern "C" fn gaffreel_volume_write(
     bytes: &[u8],
     answer: &mut [u8],
 ) -> u32
-    ensures { λ r. ⌜ record { number = r; state = now (state .exit); staging = now (staging .exit); answer = now (answer .exit) } ≡ writeCall (now (state .entry)) (now (staging .entry)) sector (now (bytes .entry)) (now (answer .entry)) ⌝ }
+    ensures { λ r. ⌜ record { number = r; left = record { state = now (state .exit); staging = now (staging .exit) }; answer = now (answer .exit) }
+        ≡ writeCall (now (state .entry)) (now (staging .entry)) sector (now (bytes .entry)) (now (answer .entry)) ⌝ }
 {
-    batch_calls::write(state, staging, sector, bytes, answer)
+    c_batch::write(state, staging, sector, bytes, answer)
 }
 
 // Begins to commit the batch, or acknowledges an empty one.
 #[no_mangle]
 pub extern "C" fn gaffreel_volume_flush(state: &mut [u8], answer: &mut [u8]) -> u32
-    ensures { λ r. ⌜ record { number = r; state = now (state .exit); answer = now (answer .exit) } ≡ flushCall (now (state .entry)) (now (answer .entry)) ⌝ }
+    ensures { λ r. ⌜ record { number = r; left = now (state .exit); answer = now (answer .exit) }
+        ≡ flushCall (now (state .entry)) (now (answer .entry)) ⌝ }
 {
-    batch_calls::flush(state, answer)
+    c_batch::flush(state, answer)
 }
 
 // Makes the next store, or none when filling.
@@ -77,9 +83,10 @@ pub extern "C" fn gaffreel_volume_step(
     staging: &mut [u8],
     answer: &mut [u8],
 ) -> u32
-    ensures { λ r. ⌜ record { number = r; state = now (state .exit); volume = now (v .exit); staging = now (staging .exit); answer = now (answer .exit) } ≡ stepCall (now (state .entry)) (now (v .entry)) (now (staging .entry)) (now (answer .entry)) ⌝ }
+    ensures { λ r. ⌜ record { number = r; left = stepBuffers (now (state .exit)) (now (v .exit)) (now (staging .exit)); answer = now (answer .exit) }
+        ≡ stepCall (now (state .entry)) (now (v .entry)) (now (staging .entry)) (now (answer .entry)) ⌝ }
 {
-    step_calls::step(state, v, staging, answer)
+    c_step::step(state, v, staging, answer)
 }
 
 // Makes a step but for its store, which is left to the volume's owner.
@@ -91,9 +98,10 @@ pub extern "C" fn gaffreel_volume_next_store(
     sector: &mut [u8],
     answer: &mut [u8],
 ) -> u32
-    ensures { λ r. ⌜ record { number = r; state = now (state .exit); staging = now (staging .exit); sector = now (sector .exit); answer = now (answer .exit) } ≡ nextStoreCall (now (state .entry)) (now (v .entry)) (now (staging .entry)) (now (sector .entry)) (now (answer .entry)) ⌝ }
+    ensures { λ r. ⌜ record { number = r; left = nextStoreBuffers (now (state .exit)) (now (staging .exit)) (now (sector .exit)); answer = now (answer .exit) }
+        ≡ nextStoreCall (now (state .entry)) (now (v .entry)) (now (staging .entry)) (now (sector .entry)) (now (answer .entry)) ⌝ }
 {
-    step_calls::next_store(state, v, staging, sector, answer)
+    c_step::next_store(state, v, staging, sector, answer)
 }
 
 // Makes so many steps, one after the other.
@@ -105,9 +113,10 @@ pub extern "C" fn gaffreel_volume_advance(
     steps: usize,
     answer: &mut [u8],
 ) -> u32
-    ensures { λ r. ⌜ record { number = r; state = now (state .exit); volume = now (v .exit); staging = now (staging .exit); answer = now (answer .exit) } ≡ advanceCall (now (state .entry)) (now (v .entry)) (now (staging .entry)) steps (now (answer .entry)) ⌝ }
+    ensures { λ r. ⌜ record { number = r; left = stepBuffers (now (state .exit)) (now (v .exit)) (now (staging .exit)); answer = now (answer .exit) }
+        ≡ advanceCall (now (state .entry)) (now (v .entry)) (now (staging .entry)) steps (now (answer .entry)) ⌝ }
 {
-    step_calls::advance(state, v, staging, steps, answer)
+    c_step::advance(state, v, staging, steps, answer)
 }
 
 // Reads a sector's bytes into a buffer.
@@ -120,7 +129,8 @@ pub extern "C" fn gaffreel_volume_read(
     bytes: &mut [u8],
     answer: &mut [u8],
 ) -> u32
-    ensures { λ r. ⌜ record { number = r; sector = now (bytes .exit); answer = now (answer .exit) } ≡ readCall (now (state .entry)) (now (v .entry)) (now (staging .entry)) sector (now (bytes .entry)) (now (answer .entry)) ⌝ }
+    ensures { λ r. ⌜ record { number = r; left = now (bytes .exit); answer = now (answer .exit) }
+        ≡ readCall (now (state .entry)) (now (v .entry)) (now (staging .entry)) sector (now (bytes .entry)) (now (answer .entry)) ⌝ }
 {
-    batch_calls::read(state, v, staging, sector, bytes, answer)
+    c_read::read(state, v, staging, sector, bytes, answer)
 }

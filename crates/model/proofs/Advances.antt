@@ -1,4 +1,4 @@
--- Advance: a step that stores nothing changes nothing, so every further one is the same.
+-- Advance: a step that does nothing changes nothing, so every further one is the same.
 use Prim.Native.Nat.{ℕ, zero, suc, _+_}
 use mathlib.Core.Bool.{Bool, true, false}
 use mathlib.Core.List.{List}
@@ -14,7 +14,7 @@ use Rattle.model.specs.State.{Verdict, passed}
 use Rattle.model.specs.Step.{stepRows, phaseStep, stepBy, stepOf}
 use Rattle.model.specs.JournalStep.{commitStep, homeStep, recoverBy}
 use Rattle.model.specs.StepResult.{stepAcknowledges, StepResult}
-use Rattle.model.specs.Advance.{AdvanceResult, storesIn, stepMade, oneMore, advanceFrom}
+use Rattle.model.specs.Advance.{AdvanceResult, doneIn, stepMade, oneMore, advanceFrom}
 use Rattle.model.specs.declared.Phase.{Phase}
 use Rattle.model.specs.declared.Phase.the-variants.{Filling, Committing, WritingBack, Recovering}
 use Rattle.model.specs.declared.State.{State}
@@ -27,7 +27,7 @@ pub record Still (s : State) (v st : List ℕ) (x : StepResult) : Type 0 where
 
 module _ (s : State) (v st : List ℕ) where
   abbrev Quiet : StepResult → Type 0
-  Quiet x = storesIn (x .answer) ≡ 0 → Still s v st x
+  Quiet x = doneIn (x .answer) ≡ 0 → Still s v st x
 
   home-quiet : (e : Entry) (h : ℕ) (last : Bool) (p : Phase) (left : List ℕ) → Quiet (homeStep s v st e h last p left)
   unfolding homeStep
@@ -62,32 +62,32 @@ module _ (s : State) (v st : List ℕ) where
 -- ---- further steps
 
 module _ (o : AdvanceResult) where
-  twice : (x : StepResult) → storesIn (x .answer) ≡ 0 → afterEffect (o .volume) (x .effect) ≡ o .volume → stepMade (stepMade o x) x ≡ stepMade o x
+  twice : (x : StepResult) → doneIn (x .answer) ≡ 0 → afterEffect (o .volume) (x .effect) ≡ o .volume → stepMade (stepMade o x) x ≡ stepMade o x
   twice x q e = λ i. record {
     answer = x .answer;
-    stores = count i;
+    done = count i;
     acknowledged = said (stepAcknowledges (x .answer)) (o .acknowledged) i;
     state = x .state;
     volume = afterEffect (e i) (x .effect);
     staging = x .staging;
   }
     where
-      count : o .stores + storesIn (x .answer) + storesIn (x .answer) ≡ o .stores + storesIn (x .answer)
+      count : o .done + doneIn (x .answer) + doneIn (x .answer) ≡ o .done + doneIn (x .answer)
       count = omega (arith, q)
 
       said : (b c : Bool) → pick b true (pick b true c) ≡ pick b true c
       said true c = refl
       said false c = refl
 
-  same-again : storesIn (oneMore o .answer) ≡ 0 → oneMore (oneMore o) ≡ oneMore o
+  same-again : doneIn (oneMore o .answer) ≡ 0 → oneMore (oneMore o) ≡ oneMore o
   same-again q =
       let x : StepResult = stepOf (o .state) (o .volume) (o .staging) in
       let still : Still (o .state) (o .volume) (o .staging) x = step-quiet (o .state) (o .volume) (o .staging) q in
       let again : stepOf (x .state) (afterEffect (o .volume) (x .effect)) (x .staging) ≡ x = λ i. stepOf (still .state i) (still .volume i) (still .staging i) in
       ap (stepMade (stepMade o x)) again ∙ twice x q (still .volume)
 
-  -- once a step stores nothing, so many more leave what it left
-  pub all-same : (n : ℕ) → storesIn (oneMore o .answer) ≡ 0 → advanceFrom (suc n) o ≡ oneMore o
+  -- once a step does nothing, so many more leave what it left
+  pub all-same : (n : ℕ) → doneIn (oneMore o .answer) ≡ 0 → advanceFrom (suc n) o ≡ oneMore o
   unfolding advanceFrom
   all-same zero q = refl
   all-same (suc n) q = ap oneMore (all-same n q) ∙ same-again q

@@ -1,7 +1,8 @@
 -- Advance: so many steps, one after the other. Document 01, "Working a volume", Step.
 --
--- AdvanceResult       : what they leave: the last step's answer, how many stores were made, whether a step said acknowledged; state, volume and staging
+-- AdvanceResult       : what they leave: the last step's answer, how many steps did something, whether a step said acknowledged; state, volume and staging
 -- noStep s v st       : what no step leaves
+-- doneIn a            : how many steps that did something the answer a of a step tells of: one, or none
 -- oneMore o           : what steps that left o and one step more leave
 -- advanceFrom n o     : what steps that left o and n steps more leave
 -- advanceOf n s v st  : the call: n steps
@@ -21,7 +22,7 @@ use Rattle.model.specs.StepResult.{stepAcknowledges, StepResult}
 
 pub record AdvanceResult : Type 0 where
   pub answer : Answer ℕ (Done × Says)
-  pub stores : ℕ
+  pub done : ℕ
   pub acknowledged : Bool
   pub state : State
   pub volume : List ℕ
@@ -29,19 +30,19 @@ pub record AdvanceResult : Type 0 where
 
 -- nothing was done, and nothing is said
 abbrev pub noStep : State → List ℕ → List ℕ → AdvanceResult
-noStep s v st = record { answer = taken (Idle, Nothing); stores = 0; acknowledged = false; state = s; volume = v; staging = st }
+noStep s v st = record { answer = taken (Idle, Nothing); done = 0; acknowledged = false; state = s; volume = v; staging = st }
 
--- a step that stored a sector names it
-abbrev pub storesIn : Answer ℕ (Done × Says) → ℕ
-storesIn (taken (Idle, says)) = 0
-storesIn (taken (Stored at, says)) = 1
-storesIn (refused r) = 0
+-- today what a step does is a store
+abbrev pub doneIn : Answer ℕ (Done × Says) → ℕ
+doneIn (taken (Idle, says)) = 0
+doneIn (taken (Stored at, says)) = 1
+doneIn (refused r) = 0
 
 abbrev pub stepMade : AdvanceResult → StepResult → AdvanceResult
 stepMade o x =
     record {
       answer = x .answer;
-      stores = o .stores + storesIn (x .answer);
+      done = o .done + doneIn (x .answer);
       acknowledged = pick (stepAcknowledges (x .answer)) true (o .acknowledged);
       state = x .state;
       volume = afterEffect (o .volume) (x .effect);

@@ -194,11 +194,11 @@ pub struct Stepped {
     pub state: State,
 }
 
-// What advance hands back: the last step's answer (idle, and nothing said, where no step was asked), how many stores were made, whether a step
+// What advance hands back: the last step's answer (idle, and nothing said, where no step was asked), how many steps did something, whether one
 // acknowledged the batch, and the state.
 pub struct Advanced {
     pub answer: StepAnswer,
-    pub stores: usize,
+    pub done: usize,
     pub acknowledged: bool,
     pub state: State,
 }

@@ -27,7 +27,7 @@ use Rattle.model.specs.Tag.{tagOf}
 use Rattle.model.specs.State.{placeOk, volumeLoanOk, stateOk, volumeOk, stagingOk, inPhase}
 use Rattle.model.specs.Step.{stepOf}
 use Rattle.model.specs.StepResult.{stepAcknowledges}
-use Rattle.model.specs.Advance.{AdvanceResult, storesIn, oneMore, advanceFrom}
+use Rattle.model.specs.Advance.{AdvanceResult, doneIn, oneMore, advanceFrom}
 use Rattle.model.proofs.Addresses.{ranged}
 use Rattle.model.proofs.Advances.{all-same, advance-more}
 use Rattle.model.proofs.Sections.{bytes-length, tag-length}
@@ -48,10 +48,10 @@ use Rattle.volume_step.proofs.Making.{place-made}
 
 -- ---- one step more
 
-pub counted : (last : Advanced) (x : Stepped) (n : ℕ) (said : Bool) → n ≡ storesIn (stepAnswer (x .answer)) → said ≡ stepAcknowledges (stepAnswer (x .answer))
-    → record { answer = x .answer; stores = last .stores + n; acknowledged = said || last .acknowledged; state = x .state } ≡ stepAdded last x
+pub counted : (last : Advanced) (x : Stepped) (n : ℕ) (said : Bool) → n ≡ doneIn (stepAnswer (x .answer)) → said ≡ stepAcknowledges (stepAnswer (x .answer))
+    → record { answer = x .answer; done = last .done + n; acknowledged = said || last .acknowledged; state = x .state } ≡ stepAdded last x
 counted last x n said en es =
-    λ i. record { answer = x .answer; stores = last .stores + en i; acknowledged = (either said (last .acknowledged) ∙ ap (λ (b : Bool). pick b true (last .acknowledged)) es) i; state = x .state }
+    λ i. record { answer = x .answer; done = last .done + en i; acknowledged = (either said (last .acknowledged) ∙ ap (λ (b : Bool). pick b true (last .acknowledged)) es) i; state = x .state }
   where
     either : (a b : Bool) → a || b ≡ pick a true b
     either true b = refl
@@ -61,7 +61,7 @@ pub made-none : (b : AdvanceResult) → b ≡ advanceFrom 0 b
 unfolding advanceFrom
 made-none b = refl
 
-pub unmoved : (b : Advanced) (v st : List ℕ) (n : ℕ) → b .stores ≡ 0 → (advanced b v st ≡ advanceFrom (b .stores) (advanced b v st)) × (b .stores ≤ n)
+pub unmoved : (b : Advanced) (v st : List ℕ) (n : ℕ) → b .done ≡ 0 → (advanced b v st ≡ advanceFrom (b .done) (advanced b v st)) × (b .done ≤ n)
 unmoved b v st n z = (made-none (advanced b v st) ∙ ap (λ (m : ℕ). advanceFrom m (advanced b v st)) (sym z), omega arith)
 
 -- m steps, and the others up to n
@@ -76,7 +76,7 @@ module _ (last next : Advanced) (x : Stepped) (e : next ≡ stepAdded last x) (v
       ap (λ (a : Advanced). advanced a v′ st′) e
       ∙ (λ i. record {
         answer = left .answer i;
-        stores = last .stores + storesIn (left .answer i);
+        done = last .done + doneIn (left .answer i);
         acknowledged = pick (stepAcknowledges (left .answer i)) true (last .acknowledged);
         state = left .state i;
         volume = left .volume i;
@@ -92,12 +92,12 @@ module _ (last next : Advanced) (x : Stepped) (e : next ≡ stepAdded last x) (v
     made-more = reached ∙ ap (λ (n : ℕ). advanceFrom n b) (sym (add-one i))
 
     -- the step stored nothing: every further one would be the same
-    pub made-all : (n : ℕ) → i < n → storesIn (stepAnswer (x .answer)) ≡ 0 → advanced next v′ st′ ≡ advanceFrom n b
+    pub made-all : (n : ℕ) → i < n → doneIn (stepAnswer (x .answer)) ≡ 0 → advanced next v′ st′ ≡ advanceFrom n b
     made-all n l q =
         let m : ℕ = n - suc i in
         let count : i + suc m ≡ n = omega arith in
-        let quiet : storesIn (oneMore (advanceFrom i b) .answer) ≡ 0 =
-        sym (ap (λ (a : AdvanceResult). storesIn (a .answer)) reached) ∙ ap (λ (a : Advanced). storesIn (stepAnswer (a .answer))) e ∙ q in
+        let quiet : doneIn (oneMore (advanceFrom i b) .answer) ≡ 0 =
+        sym (ap (λ (a : AdvanceResult). doneIn (a .answer)) reached) ∙ ap (λ (a : Advanced). doneIn (stepAnswer (a .answer))) e ∙ q in
         reached ∙ sym (all-same (advanceFrom i b) m quiet) ∙ advance-more b i (suc m) ∙ ap (λ (k : ℕ). advanceFrom k b) count
 
 -- ---- a store of a recovery
@@ -133,7 +133,7 @@ resultOf b k zero at more = b
 resultOf b k (suc i) at more =
     record {
       answer = recovered (b .state) at (k + suc i) more .answer;
-      stores = suc i;
+      done = suc i;
       acknowledged = b .acknowledged;
       state = recovered (b .state) at (k + suc i) more .state;
     }
@@ -141,7 +141,7 @@ resultOf b k (suc i) at more =
 -- What holds between two steps of a recovery that began with b on the volume v₀, at store k: i stores were made, the last to sector `at`, and left the
 -- volume v; x is the next.
 pub record Underway (b : Advanced) (v₀ : List ℕ) (k : ℕ) (ids : List ℕ) (i at : ℕ) (x : Location) (v : List ℕ) : Type 0 where
-  pub none : b .stores ≡ 0
+  pub none : b .done ≡ 0
   pub sound : stateOk (b .state) ≡ true
   pub phase : b .state .phase ≡ Recovering k
   pub reach : (st : List ℕ) → stagingOk (b .state .layout) st ≡ true
@@ -150,7 +150,7 @@ pub record Underway (b : Advanced) (v₀ : List ℕ) (k : ℕ) (ids : List ℕ) 
   pub scan : ids ≡ idsOf (b .state .layout) v
   pub next : x ≡ locationAt (b .state .layout) v (k + i)
 
-pub begins : (b : Advanced) (k : ℕ) (v₀ ids : List ℕ) → b .stores ≡ 0 → stateOk (b .state) ≡ true → b .state .phase ≡ Recovering k
+pub begins : (b : Advanced) (k : ℕ) (v₀ ids : List ℕ) → b .done ≡ 0 → stateOk (b .state) ≡ true → b .state .phase ≡ Recovering k
     → volumeLoanOk v₀ && leb (needed (b .state .layout) * 512) (length v₀) ≡ true → ids ≡ idsOf (b .state .layout) v₀
     → (x : Location) → x ≡ locationAt (b .state .layout) v₀ k → (at : ℕ) → Underway b v₀ k ids 0 at x v₀
 unfolding advanceFrom
@@ -172,16 +172,16 @@ state-recovering s sound k j q =
     (sym q) ∙ sound
 
 -- the state and the count that i steps leave, with more to come
-module _ (b : Advanced) (none : b .stores ≡ 0) (k : ℕ) (phase : b .state .phase ≡ Recovering k) (at : ℕ) where
+module _ (b : Advanced) (none : b .done ≡ 0) (k : ℕ) (phase : b .state .phase ≡ Recovering k) (at : ℕ) where
   state-after : (i : ℕ) → resultOf b k i at true .state ≡ inPhase (b .state) (Recovering (k + i))
   state-after zero =
       let same : k ≡ k + 0 = omega arith in
       λ i. record { layout = b .state .layout; phase = (phase ∙ ap Recovering same) i; count = b .state .count; id = b .state .id }
   state-after (suc i) = refl
 
-  stores-after : (i : ℕ) → resultOf b k i at true .stores ≡ i
-  stores-after zero = none
-  stores-after (suc i) = refl
+  done-after : (i : ℕ) → resultOf b k i at true .done ≡ i
+  done-after zero = none
+  done-after (suc i) = refl
 
   acknowledged-after : (i : ℕ) → resultOf b k i at true .acknowledged ≡ b .acknowledged
   acknowledged-after zero = refl
@@ -191,19 +191,19 @@ module _ (b : Advanced) (none : b .stores ≡ 0) (k : ℕ) (phase : b .state .ph
   result-next : (i at′ : ℕ) (more : Bool) → resultOf b k (suc i) at′ more ≡ stepAdded (resultOf b k i at true) (recovered (b .state) at′ (k + suc i) more)
   result-next i at′ more = go more
     where
-      count : suc i ≡ resultOf b k i at true .stores + 1
-      count = omega (arith, stores-after i)
+      count : suc i ≡ resultOf b k i at true .done + 1
+      count = omega (arith, done-after i)
 
       go : (more : Bool) → resultOf b k (suc i) at′ more ≡ stepAdded (resultOf b k i at true) (recovered (b .state) at′ (k + suc i) more)
       go true = λ j. record {
         answer = recovered (b .state) at′ (k + suc i) true .answer;
-        stores = count j;
+        done = count j;
         acknowledged = sym (acknowledged-after i) j;
         state = recovered (b .state) at′ (k + suc i) true .state;
       }
       go false = λ j. record {
         answer = recovered (b .state) at′ (k + suc i) false .answer;
-        stores = count j;
+        done = count j;
         acknowledged = sym (acknowledged-after i) j;
         state = recovered (b .state) at′ (k + suc i) false .state;
       }
@@ -309,21 +309,21 @@ module _ {b : Advanced} {v₀ : List ℕ} {k : ℕ} {ids : List ℕ} {i at : ℕ
 
   -- ---- what is handed back
 
-  pub nothing-made : i ≡ 0 → (st : List ℕ) → stagingOk g st ≡ true → advanced b v st ≡ advanceFrom (b .stores) (advanced b v₀ st)
+  pub nothing-made : i ≡ 0 → (st : List ℕ) → stagingOk g st ≡ true → advanced b v st ≡ advanceFrom (b .done) (advanced b v₀ st)
   nothing-made z st q =
       ap (λ (n : ℕ). advanced (resultOf b k n at (ltb (x .section) (g .sections))) v st) (sym z) ∙ u .reach st q
       ∙ ap (λ (n : ℕ). advanceFrom n (advanced b v₀ st)) (z ∙ sym (u .none))
 
-  pub steps-made : (r : Advanced) (o : Stepped) → r ≡ record { answer = o .answer; stores = i; acknowledged = b .acknowledged; state = o .state }
+  pub steps-made : (r : Advanced) (o : Stepped) → r ≡ record { answer = o .answer; done = i; acknowledged = b .acknowledged; state = o .state }
       → o ≡ recovered (b .state) at (k + i) (ltb (x .section) (g .sections)) → i ≢ 0 → (st : List ℕ) → stagingOk g st ≡ true
-      → advanced r v st ≡ advanceFrom (r .stores) (advanced b v₀ st)
+      → advanced r v st ≡ advanceFrom (r .done) (advanced b v₀ st)
   steps-made r o er eo nz st q =
       ap (λ (a : Advanced). advanced a v st) er
-      ∙ ap (λ (o : Stepped). advanced (record { answer = o .answer; stores = i; acknowledged = b .acknowledged; state = o .state }) v st) eo
-      ∙ go i nz ∙ u .reach st q ∙ ap (λ (a : Advanced). advanceFrom (a .stores) (advanced b v₀ st)) (sym er)
+      ∙ ap (λ (o : Stepped). advanced (record { answer = o .answer; done = i; acknowledged = b .acknowledged; state = o .state }) v st) eo
+      ∙ go i nz ∙ u .reach st q ∙ ap (λ (a : Advanced). advanceFrom (a .done) (advanced b v₀ st)) (sym er)
     where
       go : (i : ℕ) → i ≢ 0
-          → advanced (record { answer = recovered (b .state) at (k + i) (ltb (x .section) (g .sections)) .answer; stores = i; acknowledged = b .acknowledged; state = recovered (b .state) at (k + i) (ltb (x .section) (g .sections)) .state }) v st
+          → advanced (record { answer = recovered (b .state) at (k + i) (ltb (x .section) (g .sections)) .answer; done = i; acknowledged = b .acknowledged; state = recovered (b .state) at (k + i) (ltb (x .section) (g .sections)) .state }) v st
           ≡ advanced (resultOf b k i at (ltb (x .section) (g .sections))) v st
       go zero nz = absurd (nz refl)
       go (suc i) nz = refl

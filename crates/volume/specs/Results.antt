@@ -14,27 +14,27 @@ use Rattle.model.specs.Layout.{needed}
 use Rattle.model.specs.State.{stateOk, volumeLoanOk}
 use Rattle.model.specs.Refusal.{stepAnswer}
 use Rattle.model.specs.StepResult.{stepAcknowledges}
-use Rattle.model.specs.Advance.{AdvanceResult, storesIn}
+use Rattle.model.specs.Advance.{AdvanceResult, doneIn}
 use Rattle.model.specs.declared.Advanced.{Advanced}
 use Rattle.model.specs.declared.Phase.the-variants.{Recovering}
 use Rattle.model.specs.declared.Stepped.{Stepped}
 use Rattle.journal.specs.Replay.{idsOf}
 
 abbrev pub advanced : Advanced → List ℕ → List ℕ → AdvanceResult
-advanced r v st = record { answer = stepAnswer (r .answer); stores = r .stores; acknowledged = r .acknowledged; state = r .state; volume = v; staging = st }
+advanced r v st = record { answer = stepAnswer (r .answer); done = r .done; acknowledged = r .acknowledged; state = r .state; volume = v; staging = st }
 
 abbrev pub stepAdded : Advanced → Stepped → Advanced
 stepAdded a x =
     record {
       answer = x .answer;
-      stores = a .stores + storesIn (stepAnswer (x .answer));
+      done = a .done + doneIn (stepAnswer (x .answer));
       acknowledged = pick (stepAcknowledges (stepAnswer (x .answer))) true (a .acknowledged);
       state = x .state;
     }
 
 abbrev pub Scanned : Advanced → ℕ → List ℕ → List ℕ → Type 0
 Scanned a k v ids =
-    (a .stores ≡ 0)
+    (a .done ≡ 0)
     × (stateOk (a .state) ≡ true)
     × (volumeLoanOk v && leb (needed (a .state .layout) * 512) (length v) ≡ true)
     × (a .state .phase ≡ Recovering k)

@@ -21,24 +21,24 @@ ghost use Prim.Native.Nat.{ℕ, _+_, _-_, _*_, _^_, _≤_, _<_};
 ghost use lib.ListN.{length};
 ghost use Rattle.model.specs.State.{volumeLoanOk, stateOk, stagingOk};
 ghost use Rattle.model.specs.Refusal.{stepAnswer};
-ghost use Rattle.model.specs.Advance.{storesIn, advanceFrom, advanceOf};
+ghost use Rattle.model.specs.Advance.{doneIn, advanceFrom, advanceOf};
 ghost use Rattle.volume.specs.Results.{advanced, stepAdded, Scanned};
 
 // Nothing was done, and nothing is said.
 fn no_step(s: State) -> Advanced
-    ensures { λ r. ⌜ r ≡ record { answer = StepAnswer.Stepped Done.Idle Says.Nothing; stores = 0; acknowledged = false; state = s } ⌝ }
+    ensures { λ r. ⌜ r ≡ record { answer = StepAnswer.Stepped Done.Idle Says.Nothing; done = 0; acknowledged = false; state = s } ⌝ }
 {
     Advanced {
         answer: StepAnswer::Stepped(Done::Idle, Says::Nothing),
-        stores: 0,
+        done: 0,
         acknowledged: false,
         state: s,
     }
 }
 
-// How many sectors a step stored: one, or none.
-fn stores_in(a: StepAnswer) -> usize
-    ensures { λ r. ⌜ (r ≡ storesIn (stepAnswer a)) × (r ≤ 1) ⌝ }
+// How many steps did something, of one step: one, or none.
+fn done_in(a: StepAnswer) -> usize
+    ensures { λ r. ⌜ (r ≡ doneIn (stepAnswer a)) × (r ≤ 1) ⌝ }
 {
     match a {
         StepAnswer::Stepped(done, _) => match done {
@@ -51,22 +51,22 @@ fn stores_in(a: StepAnswer) -> usize
 
 // What was done before, and one step more.
 fn one_more(last: Advanced, stepped: Stepped) -> Advanced
-    requires { ⌜ last .stores < 2 ^ 64 - 1 ⌝ }
+    requires { ⌜ last .done < 2 ^ 64 - 1 ⌝ }
     ensures { λ r. ⌜ r ≡ stepAdded last stepped ⌝ }
 {
     let answer = stepped.answer;
-    let count = stores_in(answer);
+    let count = done_in(answer);
     let said = model::acknowledges(answer);
     let state = stepped.state;
     Advanced {
         answer: answer,
-        stores: last.stores + count,
+        done: last.done + count,
         acknowledged: said | last.acknowledged,
         state: state,
     }
 }
 
-// n steps more. Once a step stores nothing, every further one is the same, and is not made.
+// n steps more. Once a step does nothing, every further one is the same, and is not made.
 fn steps(
     before: Advanced,
     v: &mut [u8],
@@ -74,7 +74,7 @@ fn steps(
     n: usize,
     content: &mut [u8; SECTOR_SIZE],
 ) -> Advanced
-    requires { ⌜ before .stores + n < 2 ^ 64 ⌝ }
+    requires { ⌜ before .done + n < 2 ^ 64 ⌝ }
     ensures { λ r. ⌜ advanced r (now (v .exit)) (now (st .exit)) ≡ advanceFrom n (advanced before (now (v .entry)) (now (st .entry))) ⌝ }
 {
     let mut last = before;
@@ -84,7 +84,7 @@ fn steps(
         let answer = stepped.answer;
         let next = one_more(last, stepped);
         last = next;
-        if stores_in(answer) == 0 {
+        if done_in(answer) == 0 {
             return last;
         }
         i += 1;
@@ -94,13 +94,13 @@ fn steps(
 
 // i steps, of which each stored a sector and none said acknowledged; the last handed back `stepped`.
 fn stored_last(before: Advanced, i: usize, stepped: Stepped) -> Advanced
-    ensures { λ r. ⌜ r ≡ record { answer = stepped .answer; stores = i; acknowledged = before .acknowledged; state = stepped .state } ⌝ }
+    ensures { λ r. ⌜ r ≡ record { answer = stepped .answer; done = i; acknowledged = before .acknowledged; state = stepped .state } ⌝ }
 {
     let answer = stepped.answer;
     let state = stepped.state;
     Advanced {
         answer: answer,
-        stores: i,
+        done: i,
         acknowledged: before.acknowledged,
         state: state,
     }
@@ -117,7 +117,7 @@ fn replay_from(
     content: &mut [u8; SECTOR_SIZE],
 ) -> Advanced
     requires { ⌜ Scanned before k (now v) (now ids) ⌝ }
-    ensures { λ r. ⌜ ((st : List ℕ) → stagingOk (before .state .layout) st ≡ true → advanced r (now (v .exit)) st ≡ advanceFrom (r .stores) (advanced before (now (v .entry)) st)) × (r .stores ≤ n) ⌝ }
+    ensures { λ r. ⌜ ((st : List ℕ) → stagingOk (before .state .layout) st ≡ true → advanced r (now (v .exit)) st ≡ advanceFrom (r .done) (advanced before (now (v .entry)) st)) × (r .done ≤ n) ⌝ }
 {
     let s = before.state;
     let g = s.layout;
@@ -155,8 +155,8 @@ fn recover(
     n: usize,
     content: &mut [u8; SECTOR_SIZE],
 ) -> Advanced
-    requires { ⌜ (before .stores ≡ 0) × (before .state .phase ≡ Phase.Recovering k) ⌝ }
-    ensures { λ r. ⌜ (advanced r (now (v .exit)) (now (st .entry)) ≡ advanceFrom (r .stores) (advanced before (now (v .entry)) (now (st .entry)))) × (r .stores ≤ n) ⌝ }
+    requires { ⌜ (before .done ≡ 0) × (before .state .phase ≡ Phase.Recovering k) ⌝ }
+    ensures { λ r. ⌜ (advanced r (now (v .exit)) (now (st .entry)) ≡ advanceFrom (r .done) (advanced before (now (v .entry)) (now (st .entry)))) × (r .done ≤ n) ⌝ }
 {
     let s = before.state;
     if !state::state_ok(s) {
@@ -187,7 +187,7 @@ pub fn advance(s: State, v: &mut [u8], st: &mut [u8], n: usize) -> Advanced
         Phase::WritingBack(_, _) => steps(before, v, st, n, &mut content),
         Phase::Recovering(k) => {
             let last = recover(before, v, st, k, n, &mut content);
-            steps(last, v, st, n - last.stores, &mut content)
+            steps(last, v, st, n - last.done, &mut content)
         }
     }
 }

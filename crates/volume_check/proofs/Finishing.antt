@@ -93,7 +93,7 @@ module _ (g : Layout) (ok : layoutOk g ≡ true) (v₀ : List ℕ) (loan : volum
 
   -- what i steps left
   record Reached (i : ℕ) (o : AdvanceResult) : Type 0 where
-    stores : o .stores ≡ i
+    done : o .done ≡ i
     state : o .state ≡ inState (phaseAfter i)
     sized : length (o .volume) ≡ length v₀
     sections : (k : ℕ) → k < g .sections → sectionOf g (o .volume) k ≡ sectionOf g v₀ k
@@ -153,13 +153,13 @@ module _ (g : Layout) (ok : layoutOk g ≡ true) (v₀ : List ℕ) (loan : volum
         ∙ ap phaseAfter (add-one i)
 
     module _ (x : Replayed) (h : ℕ) (s : Sound g x) (half : h < homeCount g (x .entry)) where
-      store-reached : (y : AdvanceResult) → y .stores ≡ o .stores + 1 → y .state ≡ inState (phaseAfter (suc i))
+      store-reached : (y : AdvanceResult) → y .done ≡ o .done + 1 → y .state ≡ inState (phaseAfter (suc i))
           → y .volume ≡ made v (homeStore g v (x .entry) h) → y .staging ≡ empty → Reached (suc i) y
       store-reached y count state volume staging =
           let R′ : Ranged g = ranged g ok in
           let tag : Tag = tagOf (g .width) in
           record {
-            stores = omega (arith, R .stores);
+            done = omega (arith, R .done);
             state = state;
             sized = ap length volume ∙ home-length g R′ tag v room-here (x .entry) (s .low) (s .complete .whole) (s .complete .sized) h half ∙ R .sized;
             sections = λ k l.
@@ -183,7 +183,7 @@ module _ (g : Layout) (ok : layoutOk g ≡ true) (v₀ : List ℕ) (loan : volum
         (sym ((λ j. stepOf (state-here j) v (R .staging j)) ∙ steps)) (place-reached (recoveryStepAt g v i) place)
 
   starts : Reached 0 (noStep (openedState g v₀) v₀ empty)
-  starts = record { stores = refl; state = ap inState (first (ℕ-discrete total 0)); sized = refl; sections = λ k l. refl; staging = refl }
+  starts = record { done = refl; state = ap inState (first (ℕ-discrete total 0)); sized = refl; sections = λ k l. refl; staging = refl }
     where
       first : Dec (total ≡ 0) → phaseFor total ≡ phaseAfter 0
       first (yes z) = rw (eq-eqb total 0 z, eq-eqb 0 total (sym z))
@@ -197,7 +197,7 @@ module _ (g : Layout) (ok : layoutOk g ≡ true) (v₀ : List ℕ) (loan : volum
   ends-after : EndsAfter total (openedState g v₀) v₀ empty
   ends-after k l =
       let R = reached k l in
-      (R .stores, ap (λ (s : State). isFilling (s .phase)) (R .state) ∙ filling-when (eqb k total))
+      (R .done, ap (λ (s : State). isFilling (s .phase)) (R .state) ∙ filling-when (eqb k total))
     where
       filling-when : (b : Bool) → isFilling (pick b Filling (Recovering k)) ≡ b
       filling-when true = refl

@@ -1,7 +1,7 @@
 -- That a recovery ends, whatever the volume holds. R40: open reports two stores for each used entry. R102: after exactly that many the recovery has ended,
 -- so that no open can make the number up. The proofs are in proofs/Finishing.
 --
--- EndsAfter n s v st  : from the state s, on the volume v with the staging st, n steps make a store each, and the volume is filling after the last of them
+-- EndsAfter n s v st  : from the state s, on the volume v with the staging st, n steps do something each, and the volume is filling after the last of them
 -- Ends                : that the number that an open reports is twice the used entries, and that many steps end the recovery; over any family of tag functions
 -- BadMeansTag s v st  : a sector that the volume provides is bad exactly where its tag does not fit
 -- Finished r v st s   : what holds where the recovery of the volume v left the state s
@@ -25,9 +25,9 @@ use Rattle.model.specs.Open.{openOf}
 use Rattle.model.specs.Advance.{advanceOf}
 use Rattle.volume_check.specs.Check.{recoverOf, isBad}
 
--- after k of them k stores are made, and the volume is filling exactly where k is n
+-- each of the first k of them did something, and the volume is filling exactly where k is n
 abbrev pub EndsAfter : ℕ → State → List ℕ → List ℕ → Type 0
-EndsAfter n s v st = (k : ℕ) → k ≤ n → (advanceOf k s v st .stores ≡ k) × (isFilling (advanceOf k s v st .state .phase) ≡ eqb k n)
+EndsAfter n s v st = (k : ℕ) → k ≤ n → (advanceOf k s v st .done ≡ k) × (isFilling (advanceOf k s v st .state .phase) ≡ eqb k n)
 
 abbrev pub Ends : Type 0
 Ends =

@@ -110,8 +110,8 @@ pub enum Said {
 pub struct Advanced {
     /// What the last step gives; of no step, that nothing was stored or said.
     pub last: Stepped,
-    /// How many stores were made.
-    pub stores: u64,
+    /// How many steps did something; each made a store.
+    pub done: u64,
     /// Whether a step acknowledged the batch.
     pub acknowledged: bool,
 }
@@ -121,8 +121,8 @@ pub struct Advanced {
 pub struct Stopped {
     /// Why the step was refused.
     pub refusal: Refusal,
-    /// How many stores were made before it.
-    pub stores: u64,
+    /// How many steps before it did something; each made a store.
+    pub done: u64,
     /// Whether a step before it acknowledged the batch.
     pub acknowledged: bool,
 }
@@ -135,8 +135,8 @@ impl From<Stopped> for Refusal {
 
 impl fmt::Display for Stopped {
     fn fmt(&self, f: &mut fmt::Formatter<'_>) -> fmt::Result {
-        let plural = if self.stores == 1 { "" } else { "s" };
-        write!(f, "stopped after {} store{plural}", self.stores)?;
+        let plural = if self.done == 1 { "" } else { "s" };
+        write!(f, "stopped after {} step{plural}", self.done)?;
         if self.acknowledged {
             f.write_str(", the batch acknowledged")?;
         }
@@ -246,12 +246,12 @@ pub fn next_store(
     reply.stepped()
 }
 
-/// Takes so many steps, one after the other. From the first on that stores nothing, all give the same: so a number
+/// Takes so many steps, one after the other. From the first on that does nothing, all give the same: so a number
 /// above the stores still to come finishes a recovery, or a commit and its write-back. It names only the last sector
 /// stored: for a copy of the medium, to which every sector goes on its own, there are [`step`] and [`next_store`].
 ///
 /// After a refusal state, volume and staging are as the steps before the refused one left them, and [`Stopped`] says how
-/// many stores they made and whether one acknowledged the batch.
+/// many of them did something and whether one acknowledged the batch.
 pub fn advance(
     state: &mut State,
     volume: &mut [u8],
@@ -261,17 +261,17 @@ pub fn advance(
     let reply = Reply::on(state, |state, answer| {
         ffi::volume_advance(state, volume, staging, size(steps), answer)
     });
-    let [.., stores, acknowledged] = reply.numbers;
+    let [.., done, acknowledged] = reply.numbers;
     let acknowledged = acknowledged != 0;
     match reply.stepped() {
         Ok(last) => Ok(Advanced {
             last,
-            stores,
+            done,
             acknowledged,
         }),
         Err(refusal) => Err(Stopped {
             refusal,
-            stores,
+            done,
             acknowledged,
         }),
     }

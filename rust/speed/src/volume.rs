@@ -116,7 +116,7 @@ impl Side<gaffreel::volume::State> {
         let advanced =
             gaffreel::volume::advance(&mut state, &mut self.volume, &mut self.staging, u64::MAX)
                 .expect("the journal is good");
-        self.stores = advanced.stores;
+        self.stores = advanced.done;
         self.recovered = Some(state);
     }
 }

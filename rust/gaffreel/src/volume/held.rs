@@ -208,11 +208,11 @@ impl<B: AsRef<[u8]> + AsMut<[u8]>> Volume<B> {
         super::step(&mut self.state, self.bytes.as_mut(), &mut self.staging)
     }
 
-    /// Makes so many stores, or all that are still to come: [`advance`](super::advance).
+    /// Makes so many steps, or all that still do something: [`advance`](super::advance).
     pub fn advance(&mut self, steps: u64) -> Result<Advanced, Stopped> {
         self.nothing_due().map_err(|refusal| Stopped {
             refusal,
-            stores: 0,
+            done: 0,
             acknowledged: false,
         })?;
         super::advance(

@@ -42,15 +42,15 @@ fn same_as_single_steps(loans: &Loans, steps: u64) {
     let mut stepped = loans.lent().clone();
     let mut number = DONE;
     let mut expected = [0; 5];
-    let (mut stores, mut acknowledged) = (0, 0);
+    let (mut done, mut acknowledged) = (0, 0);
     for _ in 0..steps {
         let (last, [first, second, third]) = step(&mut stepped);
         number = last;
         if number == DONE {
-            stores += first;
+            done += u64::from(first != 0);
             acknowledged |= u64::from(third == ACKNOWLEDGED);
         }
-        expected = [first, second, third, stores, acknowledged];
+        expected = [first, second, third, done, acknowledged];
     }
     let mut advanced = loans.lent().clone();
     let answer = ffi::volume_advance(
@@ -153,7 +153,7 @@ fn each_number_of_steps() {
     });
 }
 
-/// The same where the last entry names a sector that is not provided: an advance that is refused counts the stores before.
+/// The same where the last entry names a sector that is not provided: an advance that is refused counts the steps before.
 #[test]
 fn each_number_of_steps_up_to_a_refused_one() {
     cases(1, |random| {

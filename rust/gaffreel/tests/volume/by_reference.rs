@@ -140,7 +140,7 @@ pub fn volume_advance(
     let mut counts = [0; 2];
     let number = on(state, answer, |state| {
         let advanced = volume::advance(state, volume, staging, steps as u64);
-        counts = [advanced.stores, u64::from(advanced.acknowledged)];
+        counts = [advanced.done, u64::from(advanced.acknowledged)];
         advanced.last.map(step_numbers)
     });
     // A refused advance has them too.

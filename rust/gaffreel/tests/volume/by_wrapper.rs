@@ -121,13 +121,13 @@ pub fn volume_advance(
     let advanced = on(state, |state| {
         volume::advance(state, volume, staging, steps as u64)
     })?;
-    let (stores, acknowledged) = match advanced {
-        Ok(advanced) => (advanced.stores, advanced.acknowledged),
-        Err(stopped) => (stopped.stores, stopped.acknowledged),
+    let (done, acknowledged) = match advanced {
+        Ok(advanced) => (advanced.done, advanced.acknowledged),
+        Err(stopped) => (stopped.done, stopped.acknowledged),
     };
     let last = advanced.map(|advanced| step_numbers(advanced.last));
     let number = reply(answer, last.map_err(Refusal::from));
-    put_numbers(&mut answer[24..], &[stores, u64::from(acknowledged)]);
+    put_numbers(&mut answer[24..], &[done, u64::from(acknowledged)]);
     Some(number)
 }
 

@@ -111,11 +111,11 @@ fn a_cut_after_each_store() {
         let mut world = World::new();
         world.write(5, 1).unwrap();
         flush(&mut world.state).unwrap();
-        assert_eq!(world.advance(stores).stores, stores);
+        assert_eq!(world.advance(stores).done, stores);
         let (mut world, to_come) = World::open(world.volume);
         assert_eq!(to_come, if stores < 88 { 0 } else { 2 });
         let advanced = world.advance(u64::MAX);
-        assert_eq!((advanced.stores, advanced.acknowledged), (to_come, false));
+        assert_eq!((advanced.done, advanced.acknowledged), (to_come, false));
         assert_eq!(world.read(5), if stores < 88 { 0 } else { 1 });
     }
 }
@@ -132,7 +132,7 @@ fn the_same_sector_twice() {
             stored: Some(96),
             said: Said::Filling,
         },
-        stores: 92,
+        done: 92,
         acknowledged: true,
     };
     assert_eq!(world.advance(92), advanced);
@@ -143,7 +143,7 @@ fn the_same_sector_twice() {
             stored: None,
             said: Said::Filling,
         },
-        stores: 0,
+        done: 0,
         acknowledged: false,
     };
     assert_eq!(world.advance(1), idle);

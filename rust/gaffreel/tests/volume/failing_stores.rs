@@ -236,7 +236,7 @@ fn other_steps_wait() {
     assert_eq!(volume.step(), Err(Refusal::NotNow));
     let stopped = Stopped {
         refusal: Refusal::NotNow,
-        stores: 0,
+        done: 0,
         acknowledged: false,
     };
     assert_eq!(volume.advance(1), Err(stopped));
@@ -245,7 +245,7 @@ fn other_steps_wait() {
     volume.bytes_mut()[place..][..SECTOR_LENGTH].copy_from_slice(&content);
     assert_eq!(volume.store_made(), Said::Nothing);
     let advanced = volume.advance(u64::MAX).unwrap();
-    assert_eq!((advanced.stores, advanced.acknowledged), (89, true));
+    assert_eq!((advanced.done, advanced.acknowledged), (89, true));
     assert_eq!(volume.read(3), Ok([1; SECTOR_LENGTH]));
 }
 

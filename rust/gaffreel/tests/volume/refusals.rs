@@ -165,7 +165,7 @@ fn of_step_and_advance() {
     let (section, entry) = (1, 1);
     let in_staging = Refusal::StagedSector { entry };
     let in_journal = Refusal::JournalSector { section, entry };
-    for (first, at_hand, refusal, stores, acknowledged) in [
+    for (first, at_hand, refusal, done, acknowledged) in [
         (staged(0), staged(1), in_staging, 2, false),
         (replayed(0), replayed(2), in_journal, 2, false),
         (committing, staged(1), in_staging, 90, true),
@@ -179,7 +179,7 @@ fn of_step_and_advance() {
         let answer = advance(&mut loans.0, &mut loans.1, &mut loans.2, 99);
         let stopped = Stopped {
             refusal,
-            stores,
+            done,
             acknowledged,
         };
         assert_eq!(answer, Err(stopped));
@@ -219,18 +219,14 @@ fn of_next_store() {
 #[test]
 fn messages_of_advance() {
     let refusal = Refusal::StagedSector { entry: 1 };
-    for (stores, acknowledged, counted) in [
-        (0, false, "stopped after 0 stores: "),
-        (1, false, "stopped after 1 store: "),
-        (
-            90,
-            true,
-            "stopped after 90 stores, the batch acknowledged: ",
-        ),
+    for (done, acknowledged, counted) in [
+        (0, false, "stopped after 0 steps: "),
+        (1, false, "stopped after 1 step: "),
+        (90, true, "stopped after 90 steps, the batch acknowledged: "),
     ] {
         let stopped = Stopped {
             refusal,
-            stores,
+            done,
             acknowledged,
         };
         assert_eq!(stopped.to_string(), format!("{counted}{refusal}"));

@@ -7,8 +7,8 @@ use super::{step, Refusal, Said, State, Stepped};
 pub struct Advanced {
     /// The last step's answer; of no step, that nothing was stored or said.
     pub last: Result<Stepped, Refusal>,
-    /// How many stores were made.
-    pub stores: u64,
+    /// How many steps did something; each made a store.
+    pub done: u64,
     /// Whether a step acknowledged the batch.
     pub acknowledged: bool,
 }
@@ -20,7 +20,7 @@ pub fn advance(state: &mut State, volume: &mut [u8], staging: &mut [u8], steps: 
             stored: None,
             said: Said::Nothing,
         }),
-        stores: 0,
+        done: 0,
         acknowledged: false,
     };
     for _ in 0..steps {
@@ -30,7 +30,7 @@ pub fn advance(state: &mut State, volume: &mut [u8], staging: &mut [u8], steps: 
                 stored: Some(_),
                 said,
             }) => {
-                advanced.stores += 1;
+                advanced.done += 1;
                 advanced.acknowledged |= said == Said::Acknowledged;
             }
             // It changed nothing, so all further ones are the same.

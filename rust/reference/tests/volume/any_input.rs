@@ -143,13 +143,13 @@ fn advance_at_once() {
                 stored: None,
                 said: Said::Nothing,
             }),
-            stores: 0,
+            done: 0,
             acknowledged: false,
         };
         for _ in 0..count {
             expected.last = calls::step(&mut stepped.0, &mut stepped.1, &mut stepped.2);
             if let Ok(stepped) = expected.last {
-                expected.stores += stepped.stored.iter().count() as u64;
+                expected.done += stepped.stored.iter().count() as u64;
                 expected.acknowledged |= stepped.said == Said::Acknowledged;
             }
         }

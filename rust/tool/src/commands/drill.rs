@@ -186,7 +186,7 @@ impl Drill {
         write_batch(&mut self.volume, writes)?;
         for store in 1.. {
             let advanced = self.volume.advance(1).map_err(Refusal::from)?;
-            if advanced.stores == 0 {
+            if advanced.done == 0 {
                 break;
             }
             self.stores += 1;

@@ -112,8 +112,8 @@ fn write(
     for (sector, batch) in (first..).step_by(entries).zip(sectors.chunks(entries)) {
         write_batch(volume, (sector..).zip(batch))?;
         let advanced = volume.advance(left)?;
-        left -= advanced.stores;
-        written.stores += advanced.stores;
+        left -= advanced.done;
+        written.stores += advanced.done;
         written.acknowledged += u64::from(advanced.acknowledged);
         if left == 0 {
             break;

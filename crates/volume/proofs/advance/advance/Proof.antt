@@ -9,18 +9,18 @@ use Rattle.volume.proofs.advance.advance.Statement.{statement}
 use Rattle.volume.proofs.advance.advance.Tie as tie
 
 steps-requires : tie.Need-steps-requires
-steps-requires c κs = omega (arith, ap (λ (a : Advanced). a .stores) (c .before .before .before .before .before .no-step .ensures))
+steps-requires c κs = omega (arith, ap (λ (a : Advanced). a .done) (c .before .before .before .before .before .no-step .ensures))
 
 steps-requires-2 : tie.Need-steps-requires-2
-steps-requires-2 c κs = omega (arith, ap (λ (a : Advanced). a .stores) (c .before .before .before .before .before .no-step .ensures))
+steps-requires-2 c κs = omega (arith, ap (λ (a : Advanced). a .done) (c .before .before .before .before .before .no-step .ensures))
 
 steps-requires-3 : tie.Need-steps-requires-3
-steps-requires-3 c κs = omega (arith, ap (λ (a : Advanced). a .stores) (c .before .before .before .before .before .no-step .ensures))
+steps-requires-3 c κs = omega (arith, ap (λ (a : Advanced). a .done) (c .before .before .before .before .before .no-step .ensures))
 
 recover-requires : tie.Need-recover-requires
 recover-requires c κs =
     let none = c .before .before .before .before .before .before .no-step in
-    (ap (λ (a : Advanced). a .stores) (none .ensures), ap (λ (a : Advanced). a .state .phase) (none .ensures) ∙ c .before .before .before .before .p .given .1)
+    (ap (λ (a : Advanced). a .done) (none .ensures), ap (λ (a : Advanced). a .state .phase) (none .ensures) ∙ c .before .before .before .before .p .given .1)
 
 returns : tie.Need-returns
 returns c =
@@ -42,7 +42,7 @@ returns-4 c =
     let args = c .before .before .before .before .before .before .before .before .before .before .before .before .before .before .before .before .before .before .before .before .before .args in
     let none = c .before .before .before .before .before .before .before .before .before .before .before .before .before .before .before .before .before .before .no-step in
     let recovered = c .before .before .before .before .before .before .before .before .before .before .before .recover in
-    made-rest (advanced (none .result) (args .v .now) (args .st .now)) _ _ (recovered .result .stores) (args .n) (recovered .ensures .1) (recovered .ensures .0) (c .before .before .before .before .steps4 .ensures)
+    made-rest (advanced (none .result) (args .v .now) (args .st .now)) _ _ (recovered .result .done) (args .n) (recovered .ensures .1) (recovered .ensures .0) (c .before .before .before .before .steps4 .ensures)
     ∙ ap (λ (a : Advanced). advanceFrom (args .n) (advanced a (args .v .now) (args .st .now))) (none .ensures)
 
 pub advance-spec : {M : Type 1} → statement M

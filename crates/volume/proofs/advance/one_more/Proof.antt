@@ -6,7 +6,7 @@ use Rattle.volume.proofs.advance.one_more.Tie as tie
 returns : tie.Need-returns
 returns c =
     let start = c .before .before .before .before .before in
-    let count = c .before .before .before .before .stores-in in
+    let count = c .before .before .before .before .done-in in
     counted (start .args .last) (start .args .stepped) (count .result) (c .before .before .before .acknowledges .result) (count .ensures .0) (c .before .before .before .acknowledges .ensures)
 
 pub one-more-spec : {M : Type 1} → statement M

@@ -76,7 +76,7 @@ returns-2 : tie.Need-returns-2 Inv-loop μ-loop
 returns-2 c =
     let turn = c .before .before .before .before .before .before .loop in (
       steps-made (turn .inv .3) (c .stored-last .result) (c .before .replayed .result) (c .stored-last .ensures) (c .before .replayed .ensures) (c .before .before .before .before .if3 .left),
-      omega (arith, ap (λ (a : Advanced). a .stores) (c .stored-last .ensures), turn .inv .0),
+      omega (arith, ap (λ (a : Advanced). a .done) (c .stored-last .ensures), turn .inv .0),
     )
 
 pub replay-from-spec : {M : Type 1} → statement M

@@ -12,7 +12,7 @@ use Rattle.volume.proofs.advance.steps.Tie as tie
 
 abbrev Inv-loop : tie.InvT-loop
 Inv-loop v₀ st₀ n content₀ last₀ i₀ v st content last i =
-    (i ≤ n) × (length v ≡ length v₀) × (length st ≡ length st₀) × (last .stores ≤ last₀ .stores + i) × (advanced last v st ≡ advanceFrom i (advanced last₀ v₀ st₀))
+    (i ≤ n) × (length v ≡ length v₀) × (length st ≡ length st₀) × (last .done ≤ last₀ .done + i) × (advanced last v st ≡ advanceFrom i (advanced last₀ v₀ st₀))
 
 abbrev μ-loop : tie.MeasureT-loop
 μ-loop v₀ st₀ n content₀ last₀ i₀ v st content last i = n - i
@@ -30,7 +30,7 @@ returns c =
     let step = c .before .before .before .before .before .before .before .step-through in
     let more = c .before .before .one-more in
     made-all (turn .last) (more .result) (step .result) (more .ensures) (turn .v) (turn .st) _ _ (step .ensures .0)
-    (advanced (args .before) (args .v .now) (args .st .now)) (turn .i) (turn .inv .4) (args .n) (c .before .before .before .before .before .before .before .before .before .before .before .loop-test .taken) (omega (arith, c .before .stores-in .ensures .0, c .if1 .taken))
+    (advanced (args .before) (args .v .now) (args .st .now)) (turn .i) (turn .inv .4) (args .n) (c .before .before .before .before .before .before .before .before .before .before .before .loop-test .taken) (omega (arith, c .before .done-in .ensures .0, c .if1 .taken))
 
 loop-again : tie.Need-loop-again Inv-loop μ-loop
 loop-again c =
@@ -38,12 +38,12 @@ loop-again c =
     let turn = c .before .before .before .before .before .before .before .before .before .before .before .before .loop in
     let step = c .before .before .before .before .before .before .before .step-through in
     let more = c .before .before .one-more in
-    let count = c .before .stores-in in
-    let stores : more .result .stores ≡ turn .last .stores + _ = ap (λ (a : Advanced). a .stores) (more .ensures) in (
+    let count = c .before .done-in in
+    let done : more .result .done ≡ turn .last .done + _ = ap (λ (a : Advanced). a .done) (more .ensures) in (
       omega (arith, c .before .before .before .before .before .before .before .before .before .before .before .loop-test .taken),
       search needs,
       search needs,
-      omega (arith, stores, count .ensures .0, count .ensures .1, turn .inv .3),
+      omega (arith, done, count .ensures .0, count .ensures .1, turn .inv .3),
       made-more (turn .last) (more .result) (step .result) (more .ensures) (turn .v) (turn .st) _ _ (step .ensures .0)
           (advanced (args .before) (args .v .now) (args .st .now)) (turn .i) (turn .inv .4),
     )

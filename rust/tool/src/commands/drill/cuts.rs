@@ -104,8 +104,8 @@ impl Cuts {
         let advanced = volume
             .advance(u64::MAX)
             .map_err(|stopped| refused(stopped.refusal))?;
-        if advanced.stores != due || advanced.last.said != Said::Filling {
-            let made = advanced.stores;
+        if advanced.done != due || advanced.last.said != Said::Filling {
+            let made = advanced.done;
             return Err(format!("the recovery made {made} stores and not {due}"));
         }
         let bytes = volume.bytes();

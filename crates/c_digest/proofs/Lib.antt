@@ -1,0 +1,4 @@
+-- DigestStateBytes has the proofs of specs/Theorems; DigestStates and Calls are what the proofs of the functions cite.
+pub mod DigestStateBytes
+mod DigestStates
+mod Calls

@@ -1,0 +1,27 @@
+-- The length of each kind of buffer that the C interface gives a form of its own, in bytes.
+--
+-- digestSize                : a digest, and a root digest
+-- digestStateSize           : the state of a digest
+-- levelSize                 : a failing level of a hash tree
+-- layoutSize                : a volume's layout
+-- volumeStateSize           : a volume's state
+-- answerSize                : what a volume's call says
+use Prim.Native.Nat.{ℕ}
+
+abbrev pub digestSize : ℕ
+digestSize = 32
+
+abbrev pub digestStateSize : ℕ
+digestStateSize = 104
+
+abbrev pub levelSize : ℕ
+levelSize = 4
+
+abbrev pub layoutSize : ℕ
+layoutSize = 40
+
+abbrev pub volumeStateSize : ℕ
+volumeStateSize = 80
+
+abbrev pub answerSize : ℕ
+answerSize = 40

@@ -1,0 +1,24 @@
+-- The call that reads a sector, over buffers. Document 01, "Working a volume" and "Refusal numbers".
+--
+-- readLeaves o              : what gaffreel_volume_read leaves where the model's read has the result o
+-- readCall s v st n b a     : what it leaves of the state's buffer s, the volume v, staging st, sector n, the buffer b that receives the sector's bytes, and
+--                             the answer's buffer a
+-- RefusedReadKeeps          : a read that is refused leaves the sector's buffer as it was
+use Prim.Native.Nat.{ℕ}
+use mathlib.Core.Bool.{not}
+use mathlib.Core.List.{List}
+use Rattle.model.specs.Tag.{tagOf}
+use Rattle.model.specs.Read.{ReadResult, readOf}
+use Rattle.c_numbers.specs.Called.{Called, called, Keeps}
+use Rattle.c_volume_state.specs.VolumeState.{decodeOf, encodesState}
+use Rattle.c_replies.specs.Replies.{leaves, plainReply}
+
+abbrev pub readLeaves : ReadResult → Called (List ℕ)
+readLeaves o = leaves (plainReply (o .answer)) (o .sector)
+
+unfoldable pub readCall : List ℕ → List ℕ → List ℕ → ℕ → List ℕ → List ℕ → Called (List ℕ)
+readCall s v st n b a = called a (not (encodesState s)) b (readLeaves (readOf tagOf (decodeOf s) v st n b))
+
+-- the proof is in proofs/Refusals
+abbrev pub RefusedReadKeeps : Type 0
+RefusedReadKeeps = (s v st : List ℕ) (n : ℕ) (b a : List ℕ) → Keeps (readCall s v st n b a) b

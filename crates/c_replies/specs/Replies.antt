@@ -1,0 +1,108 @@
+-- What a volume's call says, in an answer's buffer, and what open and query give in theirs. Document 01, "Refusal numbers".
+--
+-- An answer is five numbers of 8 bytes each, little-endian.
+--
+-- Reply                     : what a call says: the number that it answers, and the five numbers of its answer
+-- answerBytesOf r           : the bytes of the five numbers of the reply r
+-- leaves r after            : what a call leaves that says r, and whose other buffers then hold `after`
+-- carriedOut a b c d e      : the reply of a call that was carried out, with these five numbers
+-- refusedReply r            : the reply of a call that was refused with r: how many values are also returned, then these
+-- withCounts r n k          : the reply r with n and k as its fourth and fifth number
+-- plainReply a              : the reply to the answer a of format, write or read, which give nothing beside it
+-- flushReply a, ..          : the reply to the answer a of the call of that name
+-- storedOf d, sectorOf d    : what a step did, as two numbers
+-- saysOf x                  : what a step says, as a number
+-- openedBytes a s           : what the state's buffer s holds where open gave the answer a
+-- heldBytes a l             : what the layout's buffer l holds where query gave the answer a
+use Prim.Native.Nat.{ℕ}
+use mathlib.Core.Bool.{Bool}
+use mathlib.Core.List.{List, [], _∷_}
+use lib.ListN.{length, getD}
+use Rattle.octets.specs.Answer.{Refusal, Answer, taken, refused}
+use Rattle.octets.specs.Choice.{pick}
+use Rattle.model.specs.declared.Done.{Done}
+use Rattle.model.specs.declared.Done.the-variants.{Idle, Stored}
+use Rattle.model.specs.declared.Layout.{Layout}
+use Rattle.model.specs.declared.Says.{Says}
+use Rattle.model.specs.declared.Says.the-variants as saying
+use Rattle.model.specs.declared.State.{State}
+use Rattle.c_replies.specs.declared.Reply.{Reply}
+use Rattle.c_numbers.specs.Called.{Called}
+use Rattle.c_numbers.specs.Outcome.{done}
+use Rattle.c_numbers.specs.Numbers.{numberBytes}
+use Rattle.c_volume_state.specs.VolumeState.{layoutBytesOf, encodeOf}
+
+unfoldable pub answerBytesOf : Reply → List ℕ
+answerBytesOf r = numberBytes 8 (r .first ∷ r .second ∷ r .third ∷ r .fourth ∷ r .fifth ∷ [])
+
+abbrev pub leaves : {A : Type 0} → Reply → A → Called A
+leaves r after = record { number = r .number; left = after; answer = answerBytesOf r }
+
+abbrev pub carriedOut : ℕ → ℕ → ℕ → ℕ → ℕ → Reply
+carriedOut a b c d e = record { number = done; first = a; second = b; third = c; fourth = d; fifth = e }
+
+abbrev pub refusedReply : Refusal ℕ → Reply
+refusedReply r =
+    record {
+      number = r .number;
+      first = length (r .values);
+      second = getD (r .values) 0 0;
+      third = getD (r .values) 1 0;
+      fourth = 0;
+      fifth = 0;
+    }
+
+abbrev pub withCounts : Reply → ℕ → ℕ → Reply
+withCounts r n k =
+    record { number = r .number; first = r .first; second = r .second; third = r .third; fourth = n; fifth = k }
+
+abbrev pub plainReply : Answer ℕ (Unit {0}) → Reply
+plainReply (taken x) = carriedOut 0 0 0 0 0
+plainReply (refused r) = refusedReply r
+
+-- 1 where the batch is acknowledged at once, 0 where committing begins
+abbrev pub flushReply : Answer ℕ Bool → Reply
+flushReply (taken atOnce) = carriedOut (pick atOnce 1 0) 0 0 0 0
+flushReply (refused r) = refusedReply r
+
+-- the stores to come
+abbrev pub openReply : Answer ℕ (State × ℕ) → Reply
+openReply (taken x) = carriedOut (x .1) 0 0 0 0
+openReply (refused r) = refusedReply r
+
+-- the bytes that staging must have
+abbrev pub queryReply : Answer ℕ (Layout × ℕ) → Reply
+queryReply (taken x) = carriedOut (x .1) 0 0 0 0
+queryReply (refused r) = refusedReply r
+
+-- 1 where a sector was stored, else 0
+abbrev pub storedOf : Done → ℕ
+storedOf Idle = 0
+storedOf (Stored n) = 1
+
+-- that sector, else 0
+abbrev pub sectorOf : Done → ℕ
+sectorOf Idle = 0
+sectorOf (Stored n) = n
+
+abbrev pub saysOf : Says → ℕ
+saysOf saying.Nothing = 0
+saysOf saying.Acknowledged = 1
+saysOf saying.Filling = 2
+
+-- with two numbers more, n and k, which a refusal has too
+abbrev pub stepReply : Answer ℕ (Done × Says) → ℕ → ℕ → Reply
+stepReply (taken x) n k = carriedOut (storedOf (x .0)) (sectorOf (x .0)) (saysOf (x .1)) n k
+stepReply (refused r) n k = withCounts (refusedReply r) n k
+
+-- ---- what open and query give
+
+-- the state's buffer s afterwards
+abbrev pub openedBytes : Answer ℕ (State × ℕ) → List ℕ → List ℕ
+openedBytes (taken x) s = encodeOf (x .0)
+openedBytes (refused r) s = s
+
+-- the layout's buffer l afterwards
+abbrev pub heldBytes : Answer ℕ (Layout × ℕ) → List ℕ → List ℕ
+heldBytes (taken x) l = layoutBytesOf (x .0)
+heldBytes (refused r) l = l
