@@ -1,4 +1,4 @@
--- The calls that make and commit a batch, over buffers. Document 01, "Working a volume" and "Refusal numbers".
+-- The calls that make and commit a batch, over buffers. R41, R42, R71.
 --
 -- writeLeaves o, flushLeaves o : what the call of that name leaves where the model's has the result o
 -- WriteBuffers              : what the other buffers of gaffreel_volume_write hold

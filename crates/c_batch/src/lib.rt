@@ -1,4 +1,4 @@
-// The calls that make and commit a batch, on buffers, as crate gaffreel exports them: document 01, "Working a volume". What each leaves is defined in
+// The calls that make and commit a batch, on buffers, as crate gaffreel exports them: R41, R42. What each leaves is defined in
 // specs/Batch.antt.
 //
 // A call takes numbers and byte slices, and answers a number, as those of crate c_setup do. After a refusal every buffer but the answer's is as it was.

@@ -1,4 +1,4 @@
--- How the state of a digest lies in a buffer. Document 01, "Digest"; numbers are little-endian.
+-- How the state of a digest lies in a buffer. R11; numbers are little-endian (R9).
 --
 -- tailAt, countAt           : where the tail and the count of a state start, in bytes; its words start at 0
 -- wordsOf n b               : the first n words in b, each in 4 bytes

@@ -1,4 +1,4 @@
--- The digest's calls over buffers. Document 01, "Digest".
+-- The digest's calls over buffers. R10, R11, R12.
 --
 -- sha256Call m d            : what gaffreel_sha256 leaves of the message m and the digest's buffer d
 -- newCall s                 : what gaffreel_sha256_new leaves of the state's buffer s

@@ -1,7 +1,7 @@
-// SHA-256 on buffers, as crate gaffreel exports it: document 01, "Digest". What each call leaves is defined in specs/Sha256.antt.
+// SHA-256 on buffers, as crate gaffreel exports it: R10 to R12. What each call leaves is defined in specs/Sha256.antt.
 //
 // A call takes numbers and byte slices, and one that can refuse answers a number: 0 where it was carried out, else that of
-// a refusal in document 01, "Refusal numbers". After a refusal every buffer is as it was.
+// a refusal (R71). After a refusal every buffer is as it was.
 //
 // A state lies between two calls in a buffer of the caller's, which module state lays out. Any bytes of its length are a state.
 pub mod state;

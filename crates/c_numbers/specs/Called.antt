@@ -1,12 +1,11 @@
--- What a call of a volume leaves, and the two tests that each begins with. Document 01, "Refusal numbers".
+-- What a call of a volume leaves, and the two tests that each begins with. R71.
 --
 -- Called A                  : what a call leaves: its number, what its other buffers hold, as a value of type A, and what the answer's holds
 -- noValues                  : what the answer's buffer holds after a refusal that also returns nothing: five zeros
 -- called a bad before made  : what a call leaves that was lent the answer's buffer a, and other buffers that held `before`. Where a has a wrong length it is
 --                             refused, and nothing is written; where the call found another buffer bad, it is refused with the same number, and
 --                             says so; else `made` is what it leaves
--- Keeps c before            : where a call that leaves c is refused, its other buffers hold `before`, as they did. Document 01: "After a refusal the state and
---                             all loans are unchanged."
+-- Keeps c before            : where a call that leaves c is refused, its other buffers hold `before`, as they did. (R70)
 use Prim.Native.Nat.{ℕ}
 use mathlib.Core.Bool.{Bool}
 use mathlib.Core.List.{List, [], _∷_}

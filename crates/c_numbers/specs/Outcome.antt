@@ -1,7 +1,7 @@
--- What a call of the C interface answers, and what it leaves where it is lent one buffer to write to. Document 01, "Refusal numbers".
+-- What a call of the C interface answers, and what it leaves where it is lent one buffer to write to. R71.
 --
 -- done                      : the number of a call that was carried out
--- wrongLength               : document 01's number where a buffer has a wrong length, or the state's holds no state
+-- wrongLength               : the number (R71) where a buffer has a wrong length, or the state's holds no state
 -- carriedOut b              : the call was carried out, and b is what the buffer then holds
 -- refusedWith n b           : the call was refused with the number n, and the buffer holds b as before
 -- answering a before after  : what a call leaves whose answer is a: where that is taken the buffer holds `after`, else `before`, which it held

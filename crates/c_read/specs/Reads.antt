@@ -1,4 +1,4 @@
--- The call that reads a sector, over buffers. Document 01, "Working a volume" and "Refusal numbers".
+-- The call that reads a sector, over buffers. R50, R51, R71.
 --
 -- readLeaves o              : what gaffreel_volume_read leaves where the model's read has the result o
 -- readCall s v st n b a     : what it leaves of the state's buffer s, the volume v, staging st, sector n, the buffer b that receives the sector's bytes, and

@@ -1,4 +1,4 @@
-// The call that reads a sector, on buffers, as crate gaffreel exports it: document 01, "Working a volume". What it leaves is defined in specs/Reads.antt.
+// The call that reads a sector, on buffers, as crate gaffreel exports it: R50, R51. What it leaves is defined in specs/Reads.antt.
 //
 // A call takes numbers and byte slices, and answers a number, as those of crate c_setup do. After a refusal every buffer but the answer's is as it was.
 use c_numbers::answer_size;

@@ -1,4 +1,4 @@
--- What a volume's call says, in an answer's buffer, and what open and query give in theirs. Document 01, "Refusal numbers".
+-- What a volume's call says, in an answer's buffer, and what open and query give in theirs. R71.
 --
 -- An answer is five numbers of 8 bytes each, little-endian.
 --

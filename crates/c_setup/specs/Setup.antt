@@ -1,4 +1,4 @@
--- The calls that make and open a volume, over buffers. Document 01, "Working a volume" and "Refusal numbers".
+-- The calls that make and open a volume, over buffers. R36, R38, R71.
 --
 -- layoutWith r h w n p      : the layout that format is handed: reserved sectors, shift, width, sections, sectors provided
 -- formatLeaves o ..         : what the call of that name leaves where the model's has the result o

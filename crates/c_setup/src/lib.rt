@@ -1,7 +1,7 @@
-// The calls that make and open a volume, on buffers, as crate gaffreel exports them: document 01, "Working a volume". What each leaves is defined in
+// The calls that make and open a volume, on buffers, as crate gaffreel exports them: R35 to R40. What each leaves is defined in
 // specs/Setup.antt.
 //
-// A call takes numbers and byte slices, and answers a number: 0 where it was carried out, else that of a refusal in document 01, "Refusal numbers". What it
+// A call takes numbers and byte slices, and answers a number: 0 where it was carried out, else that of a refusal (R71). What it
 // says besides goes to an answer's buffer. After a refusal every other buffer is as it was.
 //
 // Crates c_volume_state and c_replies lay out the buffers.

@@ -7,7 +7,8 @@ use Rattle.model.specs.declared.Advanced.{Advanced}
 use Rattle.model.specs.declared.State.{State}
 use Rattle.model.specs.declared.Stepped.{Stepped}
 use Rattle.model.specs.Refusal.{stepAnswer}
-use Rattle.model.specs.Step.{StepResult, stepOf}
+use Rattle.model.specs.Step.{stepOf}
+use Rattle.model.specs.StepResult.{StepResult}
 use Rattle.model.specs.NextStore.{nextStoreOf}
 use Rattle.model.specs.Advance.{advanceOf}
 use Rattle.volume_step.specs.Results.{Leaves, Fills}

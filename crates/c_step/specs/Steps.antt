@@ -1,4 +1,4 @@
--- The calls that store, over buffers. Document 01, "Working a volume" and "Refusal numbers".
+-- The calls that store, over buffers. R43, R71.
 --
 -- StepBuffers, stepBuffers s v st : what the other buffers of gaffreel_volume_step and gaffreel_volume_advance hold
 -- stepLeaves v o            : what gaffreel_volume_step leaves where the model's step has the result o
@@ -16,7 +16,8 @@ use mathlib.Core.List.{List}
 use Rattle.octets.specs.Numbers.{Bytes}
 use Rattle.octets.specs.Choice.{pick}
 use Rattle.model.specs.Store.{afterEffect, contentOf}
-use Rattle.model.specs.Step.{StepResult, stepOf}
+use Rattle.model.specs.Step.{stepOf}
+use Rattle.model.specs.StepResult.{StepResult}
 use Rattle.model.specs.NextStore.{nextStoreOf}
 use Rattle.model.specs.Advance.{AdvanceResult, advanceOf}
 use Rattle.c_numbers.specs.Called.{Called, called, Keeps}

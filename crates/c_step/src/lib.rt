@@ -1,4 +1,4 @@
-// The calls that store, on buffers, as crate gaffreel exports them: document 01, "Working a volume". What each leaves is defined in specs/Steps.antt.
+// The calls that store, on buffers, as crate gaffreel exports them: R43. What each leaves is defined in specs/Steps.antt.
 //
 // A call takes numbers and byte slices, and answers a number, as those of crate c_setup do. After a refusal every buffer but the answer's is as it was; of
 // several steps, those before the refused one stay made.

@@ -1,4 +1,4 @@
--- The hash tree's calls over buffers. Document 01, "Hash tree".
+-- The hash tree's calls over buffers. R84, R86, R87.
 --
 -- lengthCall n              : what gaffreel_tree_length answers for the count n, in bytes: the tree's length; 0 where the count is out of range
 -- BuildCall                 : what gaffreel_tree_build leaves: its number, and the contents of the two buffers that it is lent to write to

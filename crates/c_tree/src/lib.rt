@@ -1,4 +1,4 @@
-// The hash tree on buffers, as crate gaffreel exports it: document 01, "Hash tree". What each call leaves is defined in specs/HashTree.antt.
+// The hash tree on buffers, as crate gaffreel exports it: R78 to R87. What each call leaves is defined in specs/HashTree.antt.
 //
 // A call takes numbers and byte slices, and one that can refuse answers a number, as those of crate c_digest do. After a
 // refusal every buffer is as it was, but for one that receives what the refusal also returns.

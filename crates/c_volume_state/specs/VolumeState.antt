@@ -1,4 +1,4 @@
--- How a volume's state and its layout lie in a buffer. Document 01, "Working a volume".
+-- How a volume's state and its layout lie in a buffer. R52, R54.
 --
 -- A state is ten numbers, a layout five, of 8 bytes each, little-endian.
 --

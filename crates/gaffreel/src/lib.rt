@@ -2,7 +2,7 @@
 // below, under their names in C.
 //
 // A call takes numbers and byte slices, and one that can refuse answers a number: 0 where it was carried out, else that of
-// a refusal in document 01, "Refusal numbers". After a refusal every buffer is as it was, but for one that receives what the
+// a refusal (R71). After a refusal every buffer is as it was, but for one that receives what the
 // refusal also returns; of several steps, those before the refused one stay made.
 pub mod hash_tree;
 pub mod sha256;

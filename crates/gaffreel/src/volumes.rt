@@ -1,4 +1,4 @@
-// The volume's calls: document 01, "Working a volume"; by crates c_setup, c_batch, c_read and c_step, which say what each leaves.
+// The volume's calls: R35 to R51; by crates c_setup, c_batch, c_read and c_step, which say what each leaves.
 ghost use mathlib.Core.Path.{_≡_};
 ghost use Rattle.c_setup.specs.Setup.{layoutWith, formatCall, queryCall, openCall};
 ghost use Rattle.c_batch.specs.Batch.{writeCall, flushCall};

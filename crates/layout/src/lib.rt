@@ -1,4 +1,4 @@
-// Sizes and addresses: document 01, "Volume layout, in 512-byte sectors". Each function gives what the definition of its name in the model's
+// Sizes and addresses: R15 to R28. Each function gives what the definition of its name in the model's
 // specs/Layout.antt gives, with a bound, so that a caller's arithmetic needs no other fact. Unless another unit is named, a size is in sectors,
 // and an address is the number of a sector of the volume.
 //

@@ -1,4 +1,4 @@
-// The superblock: document 01, "Volume layout", 2. A superblock is lent as a slice of its 4,096 bytes.
+// The superblock: R17. A superblock is lent as a slice of its 4,096 bytes.
 //
 // It is tested field by field: the numbers that it holds are read, and every other byte is compared with what format writes.
 use crate::SECTOR_SIZE;

@@ -6,8 +6,8 @@ use mathlib.Core.List.{List, [], _∷_, _++_}
 use native.Mathlib.Omega.{arith}
 use lib.Seq.{length-take-le}
 use lib.ListN.{length, replicate}
-use lib.Dec.{leb, eqb}
-use borrow.Author.Tests.{eqb-true, eq-eqb, lt-leb}
+use lib.Dec.{leb, ltb, eqb}
+use borrow.Author.Tests.{eqb-true, eq-eqb, lt-ltb, le-ltb, lt-leb}
 use Rattle.octets.specs.Answer.{Answer, taken}
 use Rattle.octets.specs.Numbers.{le}
 use Rattle.digest.specs.Sha256.{sha256}
@@ -23,7 +23,7 @@ use Rattle.model.specs.Section.{idOf, entryOf, emptySection, greatestIn}
 use Rattle.model.specs.Journal.{greatestId, dueIds, sectionOf, wholeIds, ordered, replayIn, replay}
 use Rattle.model.specs.State.{sectorOk, passed}
 use Rattle.model.specs.Tag.{Tag, Tags, tagOf, tagAt}
-use Rattle.model.specs.Read.{newest, staged, readRows, readOf}
+use Rattle.model.specs.Read.{newestFor, readRows, readOf}
 use Rattle.model.specs.Ledger.{start, lastFor, Ledger, note, noteAll}
 use Rattle.model.specs.Medium.{Medium, mediumOf, volumeIn}
 use Rattle.model.specs.World.{Event, Setting, settingOf, Live, off, on, World, aCut, anOpen, aWrite, aFlush, aStep, aNextStore, aRead, resting, begin, Happened, byStep, happens, next, noted, after, transcript}
@@ -56,11 +56,30 @@ ordered-none : (n : ℕ) (ids : ℕ → ℕ) → ((k : ℕ) → k < n → ids k 
 ordered-none zero ids h = refl
 ordered-none (suc n) ids h = rw (eq-eqb (ids n) 0 (h n (omega arith))) (ordered-none n ids (λ k l. h k (omega arith)))
 
-newest-last : (t : ℕ) (st : List ℕ) (n s : ℕ) (d : List ℕ) → newest t st n s d ≡ lastFor (batchOf t st n) s d
-newest-last t st zero s d = refl
-newest-last t st (suc n) s d =
-    ap (pick (eqb (entryOf t st n .sector) s) (entryOf t st n .bytes)) (newest-last t st n s d)
-    ∙ sym (lastFor-append (batchOf t st n) (writeOfEntry (entryOf t st n) ∷ []) s d)
+-- the newest of the first m staged entries for a sector: none, or one whose bytes are the last
+data Search (t : ℕ) (st : List ℕ) (d m s : ℕ) (z : List ℕ) : Type 0 where
+  miss : newestFor t st d m s ≡ d → lastFor (batchOf t st m) s z ≡ z → Search t st d m s z
+  hit : newestFor t st d m s < m → entryOf t st (newestFor t st d m s) .bytes ≡ lastFor (batchOf t st m) s z → Search t st d m s z
+
+search-newest : (t : ℕ) (st : List ℕ) (d m s : ℕ) (z : List ℕ) → Search t st d m s z
+search-newest t st d zero s z = miss refl refl
+search-newest t st d (suc m) s z = go (which (eqb (entryOf t st m .sector) s)) (search-newest t st d m s z)
+  where
+    last : lastFor (batchOf t st (suc m)) s z ≡ pick (eqb (entryOf t st m .sector) s) (entryOf t st m .bytes) (lastFor (batchOf t st m) s z)
+    last = lastFor-append (batchOf t st m) (writeOfEntry (entryOf t st m) ∷ []) s z
+
+    go : Which (eqb (entryOf t st m .sector) s) → Search t st d m s z → Search t st d (suc m) s z
+    go (isTrue e) r = hit (rw e (omega arith)) (rw e (sym (last ∙ rw e)))
+    go (isFalse e) (miss a b) = miss (rw e a) (last ∙ rw e b)
+    go (isFalse e) (hit a b) = hit (rw e (omega arith)) (rw e (b ∙ sym (last ∙ rw e)))
+
+newest-last : (t : ℕ) (st : List ℕ) (n s : ℕ) (z : List ℕ)
+    → pick (ltb (newestFor t st n n s) n) (entryOf t st (newestFor t st n n s) .bytes) z ≡ lastFor (batchOf t st n) s z
+newest-last t st n s z = go (search-newest t st n n s z)
+  where
+    go : Search t st n n s z → pick (ltb (newestFor t st n n s) n) (entryOf t st (newestFor t st n n s) .bytes) z ≡ lastFor (batchOf t st n) s z
+    go (miss a b) = rw (le-ltb (newestFor t st n n s) n (omega arith)) (sym b)
+    go (hit a b) = rw (lt-ltb (newestFor t st n n s) n a) b
 
 -- what holds at the start, of a volume that format left
 module _ (tag : Tag) (g : Layout) (sz : (s : ℕ) (b : List ℕ) → length (tag s b) ≡ g .width) (v₀ : List ℕ) (F : Fresh tag g v₀) where
@@ -213,8 +232,8 @@ module _ (tags : Tags) (g : Layout) (v₀ : List ℕ) (X : Premises (tags (g .wi
       same-tag : same (tagAt g v k) (tag k (sectorAt v (dataAt g k))) ≡ true
       same-tag = rw (A .clean k h .0, A .clean k h .1) (eq-same (tag k (l .contents k)) (tag k (l .contents k)) refl)
 
-      fit : not (staged (g .width) st n k) && not (same (tagAt g v k) (tag k (sectorAt v (dataAt g k)))) ≡ false
-      fit = ap (λ (t : Bool). not (staged (g .width) st n k) && not t) same-tag ∙ and-false (not (staged (g .width) st n k))
+      fit : not (ltb (newestFor (g .width) st n n k) n) && not (same (tagAt g v k) (tag k (sectorAt v (dataAt g k)))) ≡ false
+      fit = ap (λ (t : Bool). not (ltb (newestFor (g .width) st n n k) n) && not t) same-tag ∙ and-false (not (ltb (newestFor (g .width) st n n k) n))
 
   read-gives : (v : List ℕ) (l : Ledger) (n m : ℕ) (st : List ℕ) → Disk tag g v₀ v (l .contents) → AtFilling tag g v₀ v l n m st
       → (k : ℕ) (loan : List ℕ) → length loan ≡ 512 → k < g .provided
@@ -258,7 +277,7 @@ demand3 tags g sz v e es q =
     let X : Premises (tags (g .width)) g (formatOf tags g v .volume) = setting (tags (g .width)) g sz (formatOf tags g v .volume) F in
     agrees tags g v₀ X _ _ (lasts tags g v₀ X (begin v₀) start es (starts tags g v₀ X F)) q
 
--- document 01's tag has T bytes, for every T in range
+-- the tag of R14 has T bytes, for every T in range
 tag-length : (t : ℕ) → t ≤ 32 → (s : ℕ) (b : List ℕ) → length (tagOf t s b) ≡ t
 tag-length t h s b = length-take-le t (sha256 (le 8 s ++ b)) (rw (length-sha256 (le 8 s ++ b)) h)
 

@@ -1,4 +1,4 @@
--- Advance: so many steps, one after the other. Document 01, "Working a volume", Step.
+-- Advance: so many steps, one after the other. No rule has this call; each step is that of R43.
 --
 -- AdvanceResult       : what they leave: the last step's answer, how many steps did something, whether a step said acknowledged; state, volume and staging
 -- noStep s v st       : what no step leaves

@@ -1,4 +1,4 @@
-// The volume's types: document 01, "Volume layout", "Working a volume" and "Refusal numbers".
+// The volume's types: R25, R52, R71.
 //
 // What each call means, over any tag function, is defined in specs/, one file to a call; the ledger and demand 3 stand there too. The code that meets
 // these definitions is in the crates above.
@@ -42,7 +42,7 @@ pub struct State {
     pub id: u64,
 }
 
-// Document 01's refusals, with what is also returned. `refusalOf` of specs/Refusal.antt gives number and values.
+// The refusals of R71, with what is also returned. `refusalOf` of specs/Refusal.antt gives number and values.
 pub enum Refusal {
     // 1: a loan has a wrong length, or a state is not sound
     Malformed,
@@ -71,7 +71,7 @@ pub enum Refusal {
     Misplaced(usize),
 }
 
-// Document 01's number of a refusal.
+// The number of a refusal: R71.
 pub fn number(r: Refusal) -> u32
     ensures { λ n. ⌜ n ≡ refusalOf r .number ⌝ }
 {

@@ -1,4 +1,4 @@
--- The stores that bring the used entries of a section home, as the code names them: document 01, "Working a volume", Step, "Recovering".
+-- The stores that bring the used entries of a section home, as the code names them: R48.
 --
 -- entryStoreOf t sec x : the store that x names in the section sec
 -- locationOf p       : the store p as the code names it

@@ -1,4 +1,4 @@
-// A journal section: document 01, "A journal section". A section is lent as a slice of its M sectors' bytes: staging is one, and so is each section
+// A journal section: R26 to R30. A section is lent as a slice of its M sectors' bytes: staging is one, and so is each section
 // of a volume. Its functions are for the crates of this repository: T is at most 32, and an entry is one of the section's E, which callers show.
 use layout::METADATA_SIZE;
 use layout::SECTOR_SIZE;

@@ -1,4 +1,4 @@
-// Document 01's tag: the one place where it is computed.
+// The tag of R14: the one place where it is computed.
 ghost use mathlib.Core.Path.{_≡_};
 ghost use mathlib.Core.List.{_++_};
 ghost use lib.ListN.{length};

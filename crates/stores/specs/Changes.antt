@@ -1,4 +1,4 @@
--- The bytes that a store changes: document 01, "Working a volume", Step, "the tag sector with only that tag replaced".
+-- The bytes that a store changes: R46, of a tag's sector that tag alone.
 --
 -- Changes v x p c : the part p has every byte that the store x changes on the volume v; they become the first ones of c
 use Prim.Native.Nat.{ℕ, _+_, _/_, _≤_}

@@ -1,4 +1,4 @@
-// The stores of a step: document 01, "Working a volume", Step; the model's specs/Store.antt and specs/Step.antt. Each function fills `out`, which is as
+// The stores of a step: R43, R44, R46; the model's specs/Store.antt and specs/Step.antt. Each function fills `out`, which is as
 // long as a sector, with what a sector of the volume is to hold, and gives that sector's number. None of them stores it.
 //
 // These are functions for the crates of this repository, which test the state, the loans and the entry's sector first: so each has a `requires`, and

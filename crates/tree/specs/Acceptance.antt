@@ -1,4 +1,4 @@
--- When a data block is to be accepted. Document 01, "Hash tree".
+-- When a data block is to be accepted. R84.
 --
 -- Fits b i t n s r        : every length is as the count n asks, and count, salt length and index are in range
 -- Acceptable b i t n s r  : the data block b is to be accepted at index i: it fits, and verifies up to the root digest r

@@ -1,4 +1,4 @@
--- Document 01's number and values of each answer: "Refusal numbers"; "Hash tree": the data block counts as level −1.
+-- Number and values of each answer (R71, R100); the data block counts as level −1 (R84).
 --
 -- levelAt k        : the level of place k on the path: −1, the data block's, where k is 0, else k − 1
 -- mismatch k       : refused with 12, the highest failing level being that of place k

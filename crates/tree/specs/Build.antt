@@ -1,4 +1,4 @@
--- The call that builds a tree. Document 01, "Hash tree": building is refused 2 (count, salt length), then 1 (image, tree).
+-- The call that builds a tree. R87: refused 2 (count, salt length), then 1 (image, tree).
 --
 -- BuildOutcome          : the answer, the root digest and the bytes of the tree loan
 -- outcomeOf b t         : what the call returned and left in the tree loan

@@ -24,7 +24,7 @@ AcceptsExactly =
     (b : List ℕ) (i : ℕ) (t : List ℕ) (n : ℕ) (s r : List ℕ)
     → (verifyOf b i t n s r ≡ taken tt → Acceptable b i t n s r) × (Acceptable b i t n s r → verifyOf b i t n s r ≡ taken tt)
 
--- Demand 2: for every count, salt and image, building is not refused, and each block of the image is accepted at its own index with the tree that was
+-- R4: for every count, salt and image, building is not refused, and each block of the image is accepted at its own index with the tree that was
 -- built and the root digest that was returned.
 abbrev pub BuiltIsAccepted : Type 0
 BuiltIsAccepted =

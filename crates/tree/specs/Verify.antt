@@ -1,4 +1,4 @@
--- The call that verifies a data block. Document 01, "Hash tree": verifying is refused 1 (block, root digest), 2 (count, salt length, index), 1 (tree), then 12
+-- The call that verifies a data block. R86: refused 1 (block, root digest), 2 (count, salt length, index), 1 (tree), then 12
 -- where a digest computed along the path differs from what stands above it, compared from the root down.
 --
 -- loanRows b i t n s r  : the refusals 1 and 2 for the data block b, index i, tree t, count n, salt s and root digest r, in order

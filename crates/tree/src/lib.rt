@@ -1,4 +1,4 @@
-// The hash tree over a read-only image, after dm-verity: document 01, "Hash tree"; source document 003, version 1.
+// The hash tree over a read-only image, after dm-verity: R78 to R87.
 //
 // What each call returns is defined in specs/Build.antt and specs/Verify.antt, and what is proved of the two together is stated in
 // specs/Theorems.antt. The length of a tree is passed on from crate tree_path. Counts and indexes are usize, 64 bits on every target: none is cut off
@@ -17,7 +17,7 @@ ghost use Rattle.tree.specs.Answer.{answerOf};
 ghost use Rattle.tree.specs.Build.{outcomeOf, buildOf};
 ghost use Rattle.tree.specs.Verify.{verifyOf};
 
-// How a call ends; specs/Answer.antt has document 01's number and values of each.
+// How a call ends; specs/Answer.antt has the number and values of each (R71).
 pub enum Answer {
     // Not refused: the tree is built, the block is accepted.
     Taken,
@@ -37,7 +37,7 @@ pub struct Built {
     pub root: [u8; DIGEST_SIZE],
 }
 
-// The number of an answer in document 01; 0 where it is no refusal.
+// The number of an answer, R71; 0 where it is no refusal.
 pub fn number(a: Answer) -> u32
     ensures { λ r. ⌜ r ≡ numberIn (answerOf a) ⌝ }
 {

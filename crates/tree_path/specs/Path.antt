@@ -1,4 +1,4 @@
--- The path from a data block up to the root digest. Document 01, "Hash tree": the digests computed along a path are compared with what stands above each.
+-- The path from a data block up to the root digest. R84: the digests computed along a path are compared with what stands above each; R85: padding counts in a digest and is not looked at.
 -- Source document 003, "Theory of operation" and "Hash Tree": the hash of a leaf is that of a data block, the hash of another node that of the hash block
 -- below it, and hashes are verified up to the root hash.
 --

@@ -1,4 +1,4 @@
--- Where the parts of a hash tree stand. Document 01, "Hash tree"; source document 003, "Hash Tree" and "On-disk format".
+-- Where the parts of a hash tree stand. R80: levels up to one block; R81: the root's level first, each by rising index; R83: 1 to 16,384 data blocks.
 --
 -- A tree is so many levels of hash blocks above so many blocks. The blocks below may be the data blocks or the hash blocks of a level, so each definition
 -- is over h, a number of levels, and m, a number of blocks that they stand above, and i is the index of one of the m blocks.

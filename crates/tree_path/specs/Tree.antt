@@ -1,4 +1,4 @@
--- The hash tree over blocks. Document 01, "Hash tree"; source document 003, <version> 1 and "Hash Tree".
+-- The hash tree over blocks. R78, R79, R80, R82; after dm-verity's format 1.
 --
 -- blockOf l i      : block i of the bytes l
 -- blockDigest s b  : the digest of the block b, the salt s being put before it

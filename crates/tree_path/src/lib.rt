@@ -1,5 +1,5 @@
 // What the crates that work on a hash tree share: where its parts stand, the digest of a block, and the path from a data block to the root digest.
-// Document 01, "Hash tree"; source document 003, version 1. The definitions are in specs/.
+// R78 to R85, after dm-verity's format 1. The definitions are in specs/.
 //
 // These are helpers for the crates of this repository, which test counts and lengths once, in the call that takes them. So a function may require what was
 // tested, and its callers show it.

@@ -2,7 +2,7 @@
 //
 // A line for each count and salt: `count N salt S root R tree T accepted A`, with the salt's length, the root digest, the digest of the
 // tree's bytes, and how many blocks of the image verify at their own index. tests/tree_vectors.sh has veritysetup make the trees again.
-// Then a line for each damage: what is damaged, the answer's number in document 01, and for 12 the level that it names.
+// Then a line for each damage: what is damaged, the answer's number (R71), and for 12 the level that it names.
 //
 // Byte i of the image is (7 i + 13 (i div 4096)) mod 256, and byte i of a salt is (31 i + 5) mod 256.
 mod damage;

@@ -8,7 +8,7 @@ pub(crate) fn number(text: &[u8], n: usize) {
     io::print_decimal(STDOUT_FILENO, n as u64);
 }
 
-// An answer's number in document 01, for 12 the level, and the end of the line.
+// An answer's number (R71), for 12 the level, and the end of the line.
 pub(crate) fn answer(a: Answer) {
     number(b": ", tree::number(a) as usize);
     match a {

@@ -1,8 +1,8 @@
 // The volume's calls. Advance is here; format, query and open, write and flush, read, step and next_store are passed on from the crates that have them,
-// with the bytes of the sector that a write or a read is lent. Document 01, "Working a volume".
+// with the bytes of the sector that a write or a read is lent. R35 to R51.
 //
 // Each call takes any volume, staging, sector, parameter or state, and gives exactly what the definition of its name in the model's specs gives, with
-// document 01's tag: answer, state and every lent byte afterwards. No call has a `requires`.
+// the tag of R14: answer, state and every lent byte afterwards. No call has a `requires`.
 pub mod advance;
 
 pub use layout::SECTOR_SIZE;

@@ -1,4 +1,4 @@
-// Flush: document 01, "Working a volume"; the model's specs/Flush.antt.
+// Flush: R42, R75; the model's specs/Flush.antt.
 use model::FlushAnswer;
 use model::Flushed;
 use model::Phase;

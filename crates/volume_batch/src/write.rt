@@ -1,4 +1,4 @@
-// Write: document 01, "Working a volume"; the model's specs/Write.antt.
+// Write: R41, R74; the model's specs/Write.antt.
 use layout::SECTOR_SIZE;
 use model::Refusal;
 use model::State;

@@ -1,4 +1,4 @@
-// Format: document 01, "Working a volume"; the model's specs/Format.antt.
+// Format: R35, R36, R72; the model's specs/Format.antt.
 use layout::SECTOR_SIZE;
 use layout::superblock;
 use model::FormatAnswer;

@@ -1,4 +1,4 @@
-// Open: document 01, "Working a volume"; the model's specs/Open.antt. It checks every entry to be replayed before anything is changed, so that a
+// Open: R37 to R40, R73; the model's specs/Open.antt. It checks every entry to be replayed before anything is changed, so that a
 // refused open leaves the staging loan as it was, and a replay stores no sector whose tag does not fit.
 use crate::query;
 use journal::journal as sections;

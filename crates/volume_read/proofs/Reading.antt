@@ -5,10 +5,10 @@ use mathlib.Core.List.{List, [], _∷_, _++_}
 use mathlib.Core.Logic.{_≢_}
 use mathlib.Core.Path.{_≡_, refl, sym, ap, _∙_}
 use native.Mathlib.Omega.{arith}
-use lib.Dec.{eqb}
 use lib.ListN.{length}
-use borrow.Author.Tests.{eq-eqb, ne-eqb, le-leb, lt-leb}
+use borrow.Author.Tests.{eq-eqb, ne-eqb, lt-ltb, le-ltb, le-leb, lt-leb}
 use Rattle.octets.specs.Answer.{refuse}
+use Rattle.octets.specs.Choice.{firstMet}
 use Rattle.octets.specs.Numbers.{le}
 use Rattle.octets.specs.Parts.{part, patch, same}
 use Rattle.octets.proofs.Parts.{length-part, patch-all}
@@ -18,50 +18,21 @@ use Rattle.model.specs.declared.Layout.{Layout}
 use Rattle.model.specs.declared.State.{State}
 use Rattle.model.specs.Layout.{dataAt, tagByte}
 use Rattle.model.specs.Section.{entryOf}
-use Rattle.octets.specs.Lists.{allBelow}
 use Rattle.model.specs.Tag.{Tags, tagOf, tagAt}
 use Rattle.model.specs.State.{passed, stateOk, volumeOk, stagingOk, isRecovering}
-use Rattle.model.specs.Read.{newest, staged, readOf}
-use Rattle.model.proofs.Replays.{Which, isTrue, isFalse, which}
-use Rattle.volume_read.specs.Newest.{newestPlace}
+use Rattle.model.specs.Read.{newestFor, stagedFor, readRows, readBy, readOf}
 
-pub newest-hit : (t d n i : ℕ) (st : List ℕ) → 0 < i → entryOf t st (i - 1) .sector ≡ n → i - 1 ≡ newestPlace t st d i n
+pub newest-hit : (t d n i : ℕ) (st : List ℕ) → 0 < i → entryOf t st (i - 1) .sector ≡ n → i - 1 ≡ newestFor t st d i n
 newest-hit t d n zero st l e = absurd (omega arith)
 newest-hit t d n (suc i) st l e =
     let z : suc i - 1 ≡ i = omega arith in
     rw (z, eq-eqb (entryOf t st i .sector) n (rw z at e))
 
-pub newest-miss : (t d n i : ℕ) (st : List ℕ) → 0 < i → entryOf t st (i - 1) .sector ≢ n → newestPlace t st d i n ≡ newestPlace t st d (i - 1) n
+pub newest-miss : (t d n i : ℕ) (st : List ℕ) → 0 < i → entryOf t st (i - 1) .sector ≢ n → newestFor t st d i n ≡ newestFor t st d (i - 1) n
 newest-miss t d n zero st l e = absurd (omega arith)
 newest-miss t d n (suc i) st l e =
     let z : suc i - 1 ≡ i = omega arith in
     rw (z, ne-eqb (entryOf t st i .sector) n (rw z at e))
-
--- the newest entry for a sector among the first m: none, or at place k
-data Search (t : ℕ) (st : List ℕ) (d m n : ℕ) (z : List ℕ) : Type 0 where
-  miss : newestPlace t st d m n ≡ d → staged t st m n ≡ false → newest t st m n z ≡ z → Search t st d m n z
-  hit : newestPlace t st d m n < m → staged t st m n ≡ true → newest t st m n z ≡ entryOf t st (newestPlace t st d m n) .bytes → Search t st d m n z
-
-search : (t : ℕ) (st : List ℕ) (d m n : ℕ) (z : List ℕ) → Search t st d m n z
-search t st d zero n z = miss refl refl refl
-search t st d (suc m) n z = go (which (eqb (entryOf t st m .sector) n)) (search t st d m n z)
-  where
-    go : Which (eqb (entryOf t st m .sector) n) → Search t st d m n z → Search t st d (suc m) n z
-    go (isTrue e) r = hit (rw e (omega arith)) (rw e (no (allBelow m (λ i. not (eqb (entryOf t st i .sector) n))))) (rw e)
-      where
-        no : (b : Bool) → not (b && false) ≡ true
-        no true = refl
-        no false = refl
-    go (isFalse e) (miss a b c) = miss (rw e a) (rw e (same-b (allBelow m (λ i. not (eqb (entryOf t st i .sector) n))) b)) (rw e c)
-      where
-        same-b : (b : Bool) → not b ≡ false → not (b && true) ≡ false
-        same-b true q = q
-        same-b false q = q
-    go (isFalse e) (hit a b c) = hit (rw e (omega arith)) (rw e (same-b (allBelow m (λ i. not (eqb (entryOf t st i .sector) n))) b)) (rw e c)
-      where
-        same-b : (b : Bool) → not b ≡ true → not (b && true) ≡ true
-        same-b true q = q
-        same-b false q = q
 
 -- the tag test: what stands at the place of the tag, against the first bytes of the digest
 pub fits-is : (g : Layout) (v : List ℕ) (n : ℕ) (d : List ℕ) (r : Bool) (at start end : ℕ) → at ≡ tagByte g n → start ≡ dataAt g n * 512 → end ≡ start + 512 → d ≡ sha256 (le 8 n ++ part v start (end - start))
@@ -100,36 +71,28 @@ module _ (tags : Tags) (s : State) (v st : List ℕ) (n : ℕ) (loan : List ℕ)
             unfolding readOf
             out-of-range e = rw (ok, fits, staging, eq-eqb (length loan) 512 whole, ready, le-leb (s .layout .provided) n e)
 
-            module _ (low : n < s .layout .provided) (i : ℕ) (ei : i ≡ newestPlace (s .layout .width) st (s .count) (s .count) n) where
+            module _ (low : n < s .layout .provided) (i : ℕ) (ei : i ≡ stagedFor s st n) where
               pub found-staged : i < s .count → (o : List ℕ) → o ≡ entryOf (s .layout .width) st i .bytes → record { answer = passed; sector = o } ≡ readOf tags s v st n loan
               unfolding readOf
-              found-staged l o e = go (search (s .layout .width) st (s .count) (s .count) n (sectorAt v (dataAt (s .layout) n)))
-                where
-                  go : Search (s .layout .width) st (s .count) (s .count) n (sectorAt v (dataAt (s .layout) n)) → record { answer = passed; sector = o } ≡ readOf tags s v st n loan
-                  go (miss a b c) = absurd (omega arith)
-                  go (hit a b c) =
-                      rw (ok, fits, staging, eq-eqb (length loan) 512 whole, ready, lt-leb (s .layout .provided) n low, b, c)
-                      (ap (λ (x : List ℕ). record { answer = passed; sector = x }) (e ∙ ap (λ (k : ℕ). entryOf (s .layout .width) st k .bytes) ei))
+              found-staged l o e =
+                  let rules : firstMet (readRows tags s v st n loan) passed ≡ passed =
+                  rw (ok, fits, staging, eq-eqb (length loan) 512 whole, ready, lt-leb (s .layout .provided) n low, ← ei, lt-ltb i (s .count) l) in
+                  let chosen : entryOf (s .layout .width) st i .bytes ≡ readBy tags s v st n loan passed .sector = rw (← ei, lt-ltb i (s .count) l) in
+                  ap (λ (x : List ℕ). record { answer = passed; sector = x }) (e ∙ chosen) ∙ ap (readBy tags s v st n loan) (sym rules)
 
               module _ (above : s .count ≤ i) (f : Bool) (ef : f ≡ same (tagAt (s .layout) v n) (tags (s .layout .width) n (sectorAt v (dataAt (s .layout) n)))) where
                 pub mismatch : f ≡ false → record { answer = refuse 7 (n ∷ []); sector = loan } ≡ readOf tags s v st n loan
                 unfolding readOf
-                mismatch q = go (search (s .layout .width) st (s .count) (s .count) n (sectorAt v (dataAt (s .layout) n)))
-                  where
-                    go : Search (s .layout .width) st (s .count) (s .count) n (sectorAt v (dataAt (s .layout) n))
-                        → record { answer = refuse 7 (n ∷ []); sector = loan } ≡ readOf tags s v st n loan
-                    go (hit a b c) = absurd (omega arith)
-                    go (miss a b c) = rw (ok, fits, staging, eq-eqb (length loan) 512 whole, ready, lt-leb (s .layout .provided) n low, b, ← ef, q)
+                mismatch q =
+                    rw (ok, fits, staging, eq-eqb (length loan) 512 whole, ready, lt-leb (s .layout .provided) n low, ← ei, le-ltb i (s .count) above, ← ef, q)
 
                 pub found-home : f ≡ true → (o : List ℕ) → o ≡ sectorAt v (dataAt (s .layout) n) → record { answer = passed; sector = o } ≡ readOf tags s v st n loan
                 unfolding readOf
-                found-home q o e = go (search (s .layout .width) st (s .count) (s .count) n (sectorAt v (dataAt (s .layout) n)))
-                  where
-                    go : Search (s .layout .width) st (s .count) (s .count) n (sectorAt v (dataAt (s .layout) n)) → record { answer = passed; sector = o } ≡ readOf tags s v st n loan
-                    go (hit a b c) = absurd (omega arith)
-                    go (miss a b c) =
-                        rw (ok, fits, staging, eq-eqb (length loan) 512 whole, ready, lt-leb (s .layout .provided) n low, b, ← ef, q, c)
-                        (ap (λ (x : List ℕ). record { answer = passed; sector = x }) e)
+                found-home q o e =
+                    let rules : firstMet (readRows tags s v st n loan) passed ≡ passed =
+                    rw (ok, fits, staging, eq-eqb (length loan) 512 whole, ready, lt-leb (s .layout .provided) n low, ← ei, le-ltb i (s .count) above, ← ef, q) in
+                    let chosen : sectorAt v (dataAt (s .layout) n) ≡ readBy tags s v st n loan passed .sector = rw (← ei, le-ltb i (s .count) above) in
+                    ap (λ (x : List ℕ). record { answer = passed; sector = x }) (e ∙ chosen) ∙ ap (readBy tags s v st n loan) (sym rules)
 
 -- a sector copied into a loan as long
 pub sector-copied : (g : Layout) (v : List ℕ) (n a : ℕ) (loan r : List ℕ) → a ≡ dataAt g n → (a + 1) * 512 ≤ length v → length loan ≡ 512

@@ -1,4 +1,4 @@
-// Read: document 01, "Working a volume"; the model's specs/Read.antt.
+// Read: R50, R51, R77; the model's specs/Read.antt.
 use layout::SECTOR_SIZE;
 use model::Layout;
 use model::ReadAnswer;
@@ -16,12 +16,12 @@ ghost use Rattle.model.specs.Layout.{entryCount, sectionSize, dataAt, needed, l
 ghost use Rattle.model.specs.Tag.{tagOf, tagAt};
 ghost use Rattle.model.specs.Refusal.{readAnswer};
 ghost use Rattle.model.specs.Read.{readOf};
-ghost use Rattle.volume_read.specs.Newest.{newestPlace};
+ghost use Rattle.model.specs.Read.{newestFor};
 
 // The place of the newest of the first c staged entries for a sector; c where there is none.
-fn newest_place(st: &[u8], t: usize, c: usize, sector: usize) -> usize
+fn newest_for(st: &[u8], t: usize, c: usize, sector: usize) -> usize
     requires { ⌜ (t ≤ 32) × (c ≤ entryCount t) × (length (now st) ≡ sectionSize t * 512) ⌝ }
-    ensures { λ r. ⌜ r ≡ newestPlace t (now (st .entry)) c c sector ⌝ }
+    ensures { λ r. ⌜ r ≡ newestFor t (now (st .entry)) c c sector ⌝ }
 {
     let mut i = c;
     while 0 < i {
@@ -71,7 +71,7 @@ pub fn read(s: State, v: &[u8], st: &[u8], sector: usize, bytes: &mut [u8]) -> R
         return ReadAnswer::Refused(Refusal::Range);
     }
     let count = s.count;
-    let place = newest_place(st, g.width, count, sector);
+    let place = newest_for(st, g.width, count, sector);
     if place < count {
         section::entry_data(st, g.width, place, bytes);
         return ReadAnswer::Found;

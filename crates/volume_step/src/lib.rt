@@ -1,4 +1,4 @@
-// The call that makes one store, step, and the call that leaves it to be made, next_store. Document 01, "Working a volume".
+// The call that makes one store, step, and the call that leaves it to be made, next_store. R43.
 //
 // Each takes any state, volume and staging, and gives exactly what the definition of its name in the model's specs gives: answer, state and every lent
 // byte afterwards. They have no `requires`. Crate volume passes them on beside its own calls.

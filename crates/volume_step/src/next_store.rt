@@ -1,4 +1,4 @@
-// Next store: what a step does, but for its store, which the volume's owner makes: document 01, "Working a volume", Step; the model's specs/Step.antt. The
+// Next store: what a step does, but for its store, which the volume's owner makes: R43 to R49, R76; the model's specs/Step.antt. The
 // volume is only read.
 use crate::answers;
 use crate::recovery;

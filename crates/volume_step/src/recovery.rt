@@ -1,4 +1,4 @@
-// A store of a recovery on a journal that has been scanned: document 01, "Working a volume", Step, "Recovering". These are functions for the crates of
+// A store of a recovery on a journal that has been scanned: R48. These are functions for the crates of
 // this repository, which have the scan: so they have a `requires`, and crate volume does not pass them on.
 use crate::answers;
 use journal::journal as sections;

@@ -1,4 +1,4 @@
-// Step: document 01, "Working a volume"; the model's specs/Step.antt.
+// Step: R43, R76; the model's specs/Step.antt.
 use crate::next_store;
 use crate::store;
 use layout::SECTOR_SIZE;

@@ -3,14 +3,14 @@ use mathlib.Core.Path.{sym, _∙_, ap, refl, _≡_}
 use native.Mathlib.Omega.{arith}
 use lib.ListN.{length}
 use borrow.Author.Needs.{needs}
-use Rattle.volume_read.specs.Newest.{newestPlace}
+use Rattle.model.specs.Read.{newestFor}
 use Rattle.model.specs.Layout.{entryCount, sectionSize}
 use Rattle.volume_read.proofs.Reading.{newest-hit, newest-miss}
-use Rattle.volume_read.proofs.read.newest_place.Statement.{statement}
-use Rattle.volume_read.proofs.read.newest_place.Tie as tie
+use Rattle.volume_read.proofs.read.newest_for.Statement.{statement}
+use Rattle.volume_read.proofs.read.newest_for.Tie as tie
 
 abbrev Inv-loop : tie.InvT-loop
-Inv-loop st t c sector i₀ i = (t ≤ 32) × (c ≤ entryCount t) × (length st ≡ sectionSize t * 512) × (i ≤ c) × (newestPlace t st c c sector ≡ newestPlace t st c i sector)
+Inv-loop st t c sector i₀ i = (t ≤ 32) × (c ≤ entryCount t) × (length st ≡ sectionSize t * 512) × (i ≤ c) × (newestFor t st c c sector ≡ newestFor t st c i sector)
 
 abbrev μ-loop : tie.MeasureT-loop
 μ-loop st t c sector i₀ i = i
@@ -31,10 +31,10 @@ loop-again c = (
 )
 
 returns-2 : tie.Need-returns-2 Inv-loop μ-loop
-returns-2 c = sym (c .before .loop .inv .4 ∙ ap (λ (k : ℕ). newestPlace (c .before .before .before .args .t) (c .before .before .before .args .st .now) (c .before .before .before .args .c) k (c .before .before .before .args .sector)) {x = c .before .loop .i} {y = 0} (omega arith))
+returns-2 c = sym (c .before .loop .inv .4 ∙ ap (λ (k : ℕ). newestFor (c .before .before .before .args .t) (c .before .before .before .args .st .now) (c .before .before .before .args .c) k (c .before .before .before .args .sector)) {x = c .before .loop .i} {y = 0} (omega arith))
 
-pub newest-place-spec : {M : Type 1} → statement M
-newest-place-spec =
+pub newest-for-spec : {M : Type 1} → statement M
+newest-for-spec =
     tie.close
     (tie.spec
     Inv-loop
