@@ -60,14 +60,14 @@ store-every g Q [] p k l = absurd (omega arith)
 store-every g Q (x ∷ xs) p k l = go (decLt k (homeCount g (x .entry))) (store-every g Q xs (p .1) (k - homeCount g (x .entry)))
   where
     count : length (storesOfEntry g x) ≡ homeCount g (x .entry)
-    count = length-stores (storeOf x) (homeCount g (x .entry))
+    count = length-stores g x
 
     go : Dec (k < homeCount g (x .entry))
         → (k - homeCount g (x .entry) < storesOf g xs → StoreFor g Q (getD (entryStores g xs) (k - homeCount g (x .entry)) noStore))
         → StoreFor g Q (getD (storesOfEntry g x ++ entryStores g xs) k noStore)
     go (yes h) ih =
         subst (StoreFor g Q)
-        (sym (List·getD-append (storesOfEntry g x) (entryStores g xs) noStore k (omega (arith, count)) ∙ get-stores (storeOf x) (homeCount g (x .entry)) k h)) (p .0, h)
+        (sym (List·getD-append (storesOfEntry g x) (entryStores g xs) noStore k (omega (arith, count)) ∙ get-stores g x k h)) (p .0, h)
     go (no h) ih =
         let on : length (storesOfEntry g x) + (k - homeCount g (x .entry)) ≡ k = omega (arith, count) in
         subst (StoreFor g Q)

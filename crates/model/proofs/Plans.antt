@@ -1,30 +1,21 @@
 -- The stores of a replay, and the steps of a recovery: which entry each is of, and which of its stores.
-use Prim.Native.Nat.{ℕ, zero, suc, _+_, _≤_, _<_}
-use mathlib.Core.Path.{_≡_, refl, sym, ap, _∙_, subst}
+use Prim.Native.Nat.{ℕ, suc, _+_, _≤_, _<_}
+use mathlib.Core.Path.{_≡_, refl, ap, _∙_}
 use mathlib.Core.List.{List, [], _∷_, _++_}
 use native.Mathlib.Omega.{arith}
-use native.Mathlib.Decide.{ℕ-discrete}
 use lib.ListN.{length, getD, length-append, length-map, List·getD-append, List·getD-map}
-use lib.Seq.{getD-append-add, getD-at}
+use lib.Seq.{getD-append-add}
+use Rattle.octets.proofs.Tables.{length-tabulate, getD-tabulate}
 use Rattle.model.specs.Section.{Entry}
-use Rattle.octets.specs.Lists.{collect}
 use Rattle.model.specs.Journal.{Replayed}
-use Rattle.model.specs.Store.{mostHomeStores, homeCount, EntryStore, storeOf, storesOfEntry, entryStores, storesOf, storing, recoverySteps, stepsOf, noEntry, noStore}
+use Rattle.model.specs.Store.{mostHomeStores, homeCount, storeOf, storesOfEntry, entryStores, storesOf, storing, recoverySteps, stepsOf, noEntry, noStore}
 use Rattle.model.specs.declared.Layout.{Layout}
 
-pub length-stores : (f : ℕ → EntryStore) (n : ℕ) → length (collect n (λ h. f h ∷ [])) ≡ n
-length-stores f zero = refl
-length-stores f (suc n) = length-append (collect n (λ h. f h ∷ [])) (f n ∷ []) ∙ rw (length-stores f n) (omega arith)
+pub length-stores : (g : Layout) (x : Replayed) → length (storesOfEntry g x) ≡ homeCount g (x .entry)
+length-stores g x = length-tabulate (homeCount g (x .entry)) (storeOf x)
 
-pub get-stores : (f : ℕ → EntryStore) (n h : ℕ) → h < n → getD (collect n (λ h. f h ∷ [])) h noStore ≡ f h
-get-stores f zero h l = absurd (omega arith)
-get-stores f (suc n) h l = go (get-stores f n h) (ℕ-discrete h n)
-  where
-    go : (h < n → getD (collect n (λ h. f h ∷ [])) h noStore ≡ f h) → Dec (h ≡ n) → getD (collect n (λ h. f h ∷ []) ++ (f n ∷ [])) h noStore ≡ f h
-    go ih (yes q) =
-        subst (λ (x : ℕ). getD (collect n (λ h. f h ∷ []) ++ (f n ∷ [])) x noStore ≡ f x) (sym q)
-        (getD-at (collect n (λ h. f h ∷ [])) (f n) [] noStore n (length-stores f n))
-    go ih (no q) = List·getD-append (collect n (λ h. f h ∷ [])) (f n ∷ []) noStore h (rw (length-stores f n) (omega arith)) ∙ ih (omega arith)
+pub get-stores : (g : Layout) (x : Replayed) (h : ℕ) → h < homeCount g (x .entry) → getD (storesOfEntry g x) h noStore ≡ storeOf x h
+get-stores g x h l = getD-tabulate (homeCount g (x .entry)) (storeOf x) h noStore l
 
 -- store k is store h of entry i
 pub data At (g : Layout) : List Replayed → ℕ → ℕ → ℕ → Type 0 where
@@ -42,12 +33,12 @@ module _ (g : Layout) where
 
   at-store : {xs : List Replayed} {k i h : ℕ} → At g xs k i h → getD (entryStores g xs) k noStore ≡ storeOf (getD xs i noEntry) h
   at-store {k = k} (here {x} {xs} {h = h} e l) =
-      let n : length (storesOfEntry g x) ≡ homeCount g (x .entry) = length-stores (storeOf x) (homeCount g (x .entry)) in
+      let n = length-stores g x in
       ap (λ (y : ℕ). getD (entryStores g (x ∷ xs)) y noStore) e
       ∙ List·getD-append (storesOfEntry g x) (entryStores g xs) noStore h (omega arith)
-      ∙ get-stores (storeOf x) (homeCount g (x .entry)) h l
+      ∙ get-stores g x h l
   at-store {k = k} (there {x} {xs} j e a) =
-      let n : length (storesOfEntry g x) ≡ homeCount g (x .entry) = length-stores (storeOf x) (homeCount g (x .entry)) in
+      let n = length-stores g x in
       let q : k ≡ length (storesOfEntry g x) + j = omega arith in
       ap (λ (y : ℕ). getD (entryStores g (x ∷ xs)) y noStore) q
       ∙ getD-append-add (storesOfEntry g x) (entryStores g xs) j noStore
@@ -72,19 +63,19 @@ module _ (g : Layout) where
   stores-last : {xs : List Replayed} {k i h : ℕ} → At g xs k i h
       → h + 1 ≡ homeCount g (getD xs i noEntry .entry) → i + 1 ≡ length xs → k + 1 ≡ storesOf g xs
   stores-last (here {x} {xs = []} e l) m b =
-      let n : length (storesOfEntry g x) ≡ homeCount g (x .entry) = length-stores (storeOf x) (homeCount g (x .entry)) in
+      let n = length-stores g x in
       omega (arith, length-append (storesOfEntry g x) [])
   stores-last (here {x} {xs = y ∷ ys} e l) m b = absurd (omega arith)
   stores-last (there {x} {xs} j e a) m b =
-      let n : length (storesOfEntry g x) ≡ homeCount g (x .entry) = length-stores (storeOf x) (homeCount g (x .entry)) in
+      let n = length-stores g x in
       omega (arith, length-append (storesOfEntry g x) (entryStores g xs), stores-last a m (omega arith))
 
   stores-in : {xs : List Replayed} {k i h : ℕ} → At g xs k i h → k < storesOf g xs
   stores-in (here {x} {xs} e l) =
-      let n : length (storesOfEntry g x) ≡ homeCount g (x .entry) = length-stores (storeOf x) (homeCount g (x .entry)) in
+      let n = length-stores g x in
       omega (arith, length-append (storesOfEntry g x) (entryStores g xs))
   stores-in (there {x} {xs} j e a) =
-      let n : length (storesOfEntry g x) ≡ homeCount g (x .entry) = length-stores (storeOf x) (homeCount g (x .entry)) in
+      let n = length-stores g x in
       omega (arith, length-append (storesOfEntry g x) (entryStores g xs), stores-in a)
 
 -- a recovery has no steps but these stores

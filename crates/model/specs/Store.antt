@@ -18,7 +18,7 @@ use Rattle.octets.specs.Sectors.{sectorAt, putSector}
 use Rattle.model.specs.declared.Layout.{Layout}
 use Rattle.model.specs.Layout.{dataAt, tagSector, tagOffset}
 use Rattle.model.specs.Section.{Entry}
-use Rattle.octets.specs.Lists.{collect}
+use Rattle.octets.specs.Tables.{tabulate}
 use Rattle.model.specs.Journal.{Replayed, replay}
 
 pub record Store : Type 0 where
@@ -58,7 +58,7 @@ pub data EntryStore : Type 0 where
   storeOf : (of : Replayed) (h : ℕ) → EntryStore
 
 abbrev pub storesOfEntry : Layout → Replayed → List EntryStore
-storesOfEntry g x = collect (homeCount g (x .entry)) (λ h. storeOf x h ∷ [])
+storesOfEntry g x = tabulate (homeCount g (x .entry)) (storeOf x)
 
 abbrev pub entryStores : Layout → List Replayed → List EntryStore
 entryStores g [] = []

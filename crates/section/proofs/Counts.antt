@@ -41,7 +41,7 @@ module _ (g : Layout) (k : ℕ) (sec : List ℕ) where
   home i = storesOfEntry g (here i)
 
   home-count : (i : ℕ) → length (home i) ≡ homeCount g (entry i)
-  home-count i = length-stores (storeOf (here i)) (homeCount g (entry i))
+  home-count i = length-stores g (here i)
 
   below-used : (i : ℕ) → entry i .sector ≢ unused → below (i + 1) ≡ below i ++ home i
   below-used i n =
@@ -96,7 +96,7 @@ module _ (g : Layout) (k : ℕ) (sec : List ℕ) where
     where
       one-of : (rest : List EntryStore) → getD (home i ++ rest) h noStore ≡ storeOf (here i) h
       one-of rest =
-          List·getD-append (home i) rest noStore h (omega (arith, home-count i)) ∙ get-stores (storeOf (here i)) (homeCount g (entry i)) h s
+          List·getD-append (home i) rest noStore h (omega (arith, home-count i)) ∙ get-stores g (here i) h s
 
       go : Begins (below (i + 1)) (below n) → storeOf (here i) h ≡ getD (below n) m noStore
       go (begins rest q) =

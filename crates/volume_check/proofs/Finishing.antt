@@ -8,7 +8,7 @@ use native.Mathlib.Decide.{ℕ-discrete}
 use native.Mathlib.Numerals.{add-one}
 use native.Mathlib.Omega.{arith}
 use lib.Dec.{leb, ltb, eqb}
-use lib.ListN.{length, getD, replicate, length-replicate}
+use lib.ListN.{length, getD, replicate, length-append, length-replicate}
 use borrow.Author.Tests.{eq-eqb, ne-eqb, lt-ltb, le-leb, lt-leb, leb-false, ltb-false, not-false}
 use Rattle.octets.specs.Answer.{Refusal, taken, refused, refuse, isTaken}
 use Rattle.octets.proofs.Answers.{taken-same, refused-not-taken}
@@ -24,7 +24,7 @@ use Rattle.model.specs.Layout.{entryCount, sectionSize, dataAt, needed, layoutO
 use Rattle.model.specs.Section.{emptySection}
 use Rattle.model.specs.Journal.{greatestId, sectionOf, Replayed, replay}
 use Rattle.model.specs.Superblock.{superblockAt, layoutIn}
-use Rattle.model.specs.Store.{made, homeCount, homeStore, storeOf, storesOf, RecoveryStep, storing, recoverySteps, stepsOf, noStore, recoveryStepAt}
+use Rattle.model.specs.Store.{made, homeCount, homeStore, storeOf, storesOfEntry, entryStores, storesOf, RecoveryStep, storing, recoverySteps, stepsOf, noStore, recoveryStepAt}
 use Rattle.model.specs.Tag.{Tag, Tags, tagOf, tagAt}
 use Rattle.model.specs.State.{Verdict, passed, placeOk, replayOk, volumeLoanOk, stateOk, volumeOk, stagingOk, isFilling}
 use Rattle.model.specs.Open.{openRows, entriesVerdict, phaseFor, openedState, OpenResult, openBy, openWith, openOf}
@@ -37,7 +37,7 @@ use Rattle.model.proofs.Addresses.{Ranged, ranged}
 use Rattle.model.proofs.Homes.{home-length, home-sections}
 use Rattle.model.proofs.Invariant.{stateAt}
 use Rattle.model.proofs.Journals.{Every, replay-kept}
-use Rattle.model.proofs.Plans.{steps-stores}
+use Rattle.model.proofs.Plans.{length-stores, home-two, steps-stores}
 use Rattle.model.proofs.Entries.{Complete, replay-complete, StepFor, step-every}
 use Rattle.model.proofs.Sections.{per-pos, length-empty}
 use Rattle.layout.proofs.Sizes.{width-high}
@@ -68,9 +68,9 @@ entries-sound tag g (x ∷ xs) p e =
 
 -- two stores to an entry
 stores-twice : (g : Layout) (xs : List Replayed) → storesOf g xs ≡ 2 * length xs
-unfolding homeCount
 stores-twice g [] = refl
-stores-twice g (x ∷ xs) = omega (arith, stores-twice g xs)
+stores-twice g (x ∷ xs) =
+    omega (arith, length-append (storesOfEntry g x) (entryStores g xs), length-stores g x, home-two g (x .entry), stores-twice g xs)
 
 steps-twice : (g : Layout) (xs : List Replayed) → stepsOf g xs ≡ 2 * length xs
 steps-twice g xs = steps-stores g xs ∙ stores-twice g xs
