@@ -119,8 +119,11 @@ fn replay_from(
     n: usize,
     content: &mut [u8; SECTOR_SIZE],
 ) -> Advanced
-    requires { ⌜ (before .done ≡ 0) × (stateOk (before .state) ≡ true) × (volumeLoanOk (now v) && leb (needed (before .state .layout) * 512) (length (now v)) ≡ true) × (before .state .phase ≡ Phase.Recovering k) × (now ids ≡ idsOf (before .state .layout) (now v)) ⌝ }
-    ensures { λ r. ⌜ ((st : List ℕ) → stagingOk (before .state .layout) st ≡ true → advanced r (now (v .exit)) st ≡ advanceFrom (r .done) (advanced before (now (v .entry)) st)) × (r .done ≤ n) ⌝ }
+    requires { ⌜ (before .done ≡ 0) × (stateOk (before .state) ≡ true)
+        × (volumeLoanOk (now v) && leb (needed (before .state .layout) * 512) (length (now v)) ≡ true)
+        × (before .state .phase ≡ Phase.Recovering k) × (now ids ≡ idsOf (before .state .layout) (now v)) ⌝ }
+    ensures { λ r. ⌜ ((st : List ℕ) → stagingOk (before .state .layout) st ≡ true
+        → advanced r (now (v .exit)) st ≡ advanceFrom (r .done) (advanced before (now (v .entry)) st)) × (r .done ≤ n) ⌝ }
 {
     let s = before.state;
     let g = s.layout;
@@ -159,7 +162,8 @@ fn recover(
     content: &mut [u8; SECTOR_SIZE],
 ) -> Advanced
     requires { ⌜ (before .done ≡ 0) × (before .state .phase ≡ Phase.Recovering k) ⌝ }
-    ensures { λ r. ⌜ (advanced r (now (v .exit)) (now (st .entry)) ≡ advanceFrom (r .done) (advanced before (now (v .entry)) (now (st .entry)))) × (r .done ≤ n) ⌝ }
+    ensures { λ r. ⌜ (advanced r (now (v .exit)) (now (st .entry)) ≡ advanceFrom (r .done) (advanced before (now (v .entry)) (now (st .entry))))
+        × (r .done ≤ n) ⌝ }
 {
     let s = before.state;
     if !state::state_ok(s) {
