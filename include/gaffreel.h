@@ -41,7 +41,7 @@
  *     gaffreel_volume_query         256
  *     gaffreel_volume_open        3,648
  *     gaffreel_volume_write       2,624
- *     gaffreel_volume_flush         640
+ *     gaffreel_volume_flush         384
  *     gaffreel_volume_step        2,304
  *     gaffreel_volume_next_store  1,728
  *     gaffreel_volume_advance     3,712
@@ -96,7 +96,7 @@
  *                 return 1;
  *             }
  *             // The answer names the sector of the volume that is to go to the medium now.
- *         } while (answer[16] != GAFFREEL_VOLUME_SAYS_FILLING);
+ *         } while ((answer[16] & GAFFREEL_VOLUME_SAYS_FILLING) == 0);
  *         if (gaffreel_volume_read(state, sizeof state, volume, sizeof volume, staging, sizeof staging, 5, found,
  *                                  sizeof found, answer, sizeof answer) != GAFFREEL_DONE) {
  *             return 1;
@@ -231,17 +231,18 @@ uint32_t gaffreel_sha256_finish(const uint8_t *state, size_t state_length, uint8
 /*
  * The length of a layout, in bytes: the reserved sectors, at 0 (at most 64); the base-two logarithm of the sectors of a run,
  * at 8 (3 to 15); the bytes of a tag, at 16 (8, 16 or 32); the sections of the journal, at 24 (1 to 64); the sectors
- * provided, at 32 (1 to 65,536).
+ * provided, at 32 (1 to 65,536); three numbers that have no meaning yet and are 0, at 40, 48 and 56.
  */
-#define GAFFREEL_VOLUME_LAYOUT_SIZE 40
+#define GAFFREEL_VOLUME_LAYOUT_SIZE 64
 
 /*
- * The length of a state, in bytes: a layout, at 0; the phase, at 40; the two numbers of its place, at 48 and 56; the entries
- * of the batch, at 64; the next commit id, at 72. It is good for one open volume, and an earlier one is never gone back to: a
- * batch committed from it would share its id with another. Bytes hold no state where the phase is none of enum
- * gaffreel_volume_phase, or where a number of the place that the phase lacks is not 0.
+ * The length of a state, in bytes: a layout, at 0; the phase, at 64; the two numbers of its place, at 72 and 80; the entries
+ * of the batch, at 88; the next commit id, at 96. It is good for one open volume, and an earlier one is never gone back to: a
+ * batch committed from it would share its id with another. Bytes hold no state where one of the layout's numbers that have no
+ * meaning yet is not 0, where the phase is none of enum gaffreel_volume_phase, or where a number of the place that the phase
+ * lacks is not 0.
  */
-#define GAFFREEL_VOLUME_STATE_SIZE 80
+#define GAFFREEL_VOLUME_STATE_SIZE 104
 
 /*
  * The length of an answer, in bytes: five numbers, at 0, 8, 16, 24 and 32. After a refusal: how many values are also
@@ -263,14 +264,21 @@ enum gaffreel_volume_phase {
     GAFFREEL_VOLUME_RECOVERING = 3
 };
 
-/* What a step says besides. */
-enum gaffreel_volume_says {
-    GAFFREEL_VOLUME_SAYS_NOTHING = 0,
-    /* The batch is acknowledged: once the sector that is named with it is on the medium, a power cut keeps it. */
-    GAFFREEL_VOLUME_SAYS_ACKNOWLEDGED = 1,
-    /* The volume is filling. */
-    GAFFREEL_VOLUME_SAYS_FILLING = 2
+/* What a step did. There may be more kinds later. */
+enum gaffreel_volume_done {
+    /* Nothing; a step does nothing only where the volume is filling. */
+    GAFFREEL_VOLUME_IDLE = 0,
+    /* It stored a sector; gaffreel_volume_next_store leaves that to its caller. */
+    GAFFREEL_VOLUME_STORED = 1
 };
+
+/* What a step says besides, as the bits of a number. There may be more bits later. */
+
+/* The batch is acknowledged: once the sector that is named with it is on the medium, a power cut keeps it. */
+#define GAFFREEL_VOLUME_SAYS_ACKNOWLEDGED 1
+
+/* The volume is filling. */
+#define GAFFREEL_VOLUME_SAYS_FILLING 2
 
 /*
  * Makes a volume whose sectors hold zeros, every tag in place: `shift` is the base-two logarithm of the sectors of a run,
@@ -341,8 +349,8 @@ uint32_t gaffreel_volume_write(uint8_t *state, size_t state_length, uint8_t *sta
 uint32_t gaffreel_volume_flush(uint8_t *state, size_t state_length, uint8_t *answer, size_t answer_length);
 
 /*
- * Makes one sector store, or none where the volume is filling. Answer: 1 where a sector was stored, else 0; that sector of
- * the volume; what the step says (enum gaffreel_volume_says).
+ * Makes one sector store, or none where the volume is filling. Answer: what the step did (enum gaffreel_volume_done); the
+ * sector of the volume that was stored, else 0; what the step says, as bits.
  *
  * Refused, in this order, with
  *   - GAFFREEL_LENGTH_OR_LIMIT where a buffer has a wrong length, the state is not sound, or it does not fit the volume;
@@ -353,7 +361,7 @@ uint32_t gaffreel_volume_step(uint8_t *state, size_t state_length, uint8_t *volu
 
 /*
  * Makes a step as gaffreel_volume_step does, but for its store, which the caller makes: for a volume that can be read in
- * place and not stored to, as flash. Where the answer says that a sector is stored, `bytes` has what that sector of the
+ * place and not stored to, as flash. Where the answer is GAFFREEL_VOLUME_STORED, `bytes` has what that sector of the
  * volume is to hold; else `bytes` is as it was. Answer: as of gaffreel_volume_step.
  *
  * State and staging are those after the step. So the caller

@@ -25,7 +25,11 @@ enum {
     COMMIT_STORES = 88,
     STORES = 90,
     /* Where the second entry's logical sector lies in staging. */
-    SECOND_ENTRY = 48
+    SECOND_ENTRY = 48,
+    /* Where a layout has the three numbers that have no meaning yet, and a state its phase and the first of its place. */
+    UNUSED_AT = 40,
+    PHASE_AT = 64,
+    PLACE_AT = 72
 };
 
 static uint8_t volume[VOLUME], staging[STAGING], state[STATE], answer[ANSWER], layout[LAYOUT], bytes[SECTOR];
@@ -36,9 +40,9 @@ static void assert_answer(uint64_t first, uint64_t second, uint64_t third) {
     assert(number_at(answer, 16) == third);
 }
 
-/* How many stores an advance made, and whether a step of it said acknowledged. */
-static void assert_counts(uint64_t stores, uint64_t acknowledged) {
-    assert(number_at(answer, 24) == stores);
+/* How many steps of an advance did something, and whether one said acknowledged. */
+static void assert_counts(uint64_t done, uint64_t acknowledged) {
+    assert(number_at(answer, 24) == done);
     assert(number_at(answer, 32) == acknowledged);
 }
 
@@ -95,9 +99,11 @@ static void begin(void) {
 }
 
 static void test_query(void) {
+    size_t i;
     memset(volume, 0, VOLUME);
     assert(gaffreel_volume_query(volume, VOLUME, 0, layout, LAYOUT, answer, ANSWER) == GAFFREEL_SUPERBLOCK);
     begin();
+    memset(layout, MARK, LAYOUT);
     assert(gaffreel_volume_query(volume, VOLUME, 0, layout, LAYOUT, answer, ANSWER) == GAFFREEL_DONE);
     assert_answer(STAGING, 0, 0);
     assert(number_at(layout, 0) == 0);
@@ -105,6 +111,10 @@ static void test_query(void) {
     assert(number_at(layout, 16) == 32);
     assert(number_at(layout, 24) == 1);
     assert(number_at(layout, 32) == 16);
+    for (i = UNUSED_AT; i < LAYOUT; i++) {
+        assert(layout[i] == 0);
+    }
+    assert(memcmp(layout, state, LAYOUT) == 0);
 }
 
 /* "the 80th write is taken, the 81st refused 8" */
@@ -128,17 +138,17 @@ static void test_stores(void) {
     assert(flush() == GAFFREEL_DONE);
     assert_answer(0, 0, 0);
     for (i = 0; i < COMMIT_STORES; i++) {
-        assert(number_at(state, 40) == GAFFREEL_VOLUME_COMMITTING && number_at(state, 48) == i);
+        assert(number_at(state, PHASE_AT) == GAFFREEL_VOLUME_COMMITTING && number_at(state, PLACE_AT) == i);
         assert(step() == GAFFREEL_DONE);
-        assert_answer(1, 8 + i, i + 1 < COMMIT_STORES ? GAFFREEL_VOLUME_SAYS_NOTHING : GAFFREEL_VOLUME_SAYS_ACKNOWLEDGED);
+        assert_answer(GAFFREEL_VOLUME_STORED, 8 + i, i + 1 < COMMIT_STORES ? 0 : GAFFREEL_VOLUME_SAYS_ACKNOWLEDGED);
     }
-    assert(number_at(state, 40) == GAFFREEL_VOLUME_WRITING_BACK);
+    assert(number_at(state, PHASE_AT) == GAFFREEL_VOLUME_WRITING_BACK);
     assert(step() == GAFFREEL_DONE);
-    assert_answer(1, DATA_AT, GAFFREEL_VOLUME_SAYS_NOTHING);
+    assert_answer(GAFFREEL_VOLUME_STORED, DATA_AT, 0);
     assert(step() == GAFFREEL_DONE);
-    assert_answer(1, TAG_AT, GAFFREEL_VOLUME_SAYS_FILLING);
+    assert_answer(GAFFREEL_VOLUME_STORED, TAG_AT, GAFFREEL_VOLUME_SAYS_FILLING);
     assert(step() == GAFFREEL_DONE);
-    assert_answer(0, 0, GAFFREEL_VOLUME_SAYS_FILLING);
+    assert_answer(GAFFREEL_VOLUME_IDLE, 0, GAFFREEL_VOLUME_SAYS_FILLING);
     assert_reads(WRITTEN, 1);
 }
 
@@ -157,7 +167,7 @@ static void test_next_stores(void) {
         memset(bytes, MARK, SECTOR);
         assert(next_store() == GAFFREEL_DONE);
         assert(memcmp(copy, volume, VOLUME) == 0);
-        if (number_at(answer, 0) == 1) {
+        if (number_at(answer, 0) == GAFFREEL_VOLUME_STORED) {
             memcpy(volume + number_at(answer, 8) * SECTOR, bytes, SECTOR);
         } else {
             assert(stores == STORES);
@@ -231,7 +241,7 @@ static void test_refusals(void) {
     assert(write_sector(WRITTEN, 1) == GAFFREEL_NOT_NOW);
 }
 
-/* An advance that is refused at the second entry, since staging was damaged after the flush: the stores before it count. */
+/* An advance that is refused at the second entry, since staging was damaged after the flush: the steps before it count. */
 static void test_refused_advance(void) {
     begin();
     assert(write_sector(WRITTEN, 1) == GAFFREEL_DONE);
@@ -242,7 +252,7 @@ static void test_refused_advance(void) {
     assert(advance(SIZE_MAX) == GAFFREEL_SECTOR_RANGE);
     assert_answer(1, 1, 0);
     assert_counts(STORES, 1);
-    assert(number_at(state, 40) == GAFFREEL_VOLUME_WRITING_BACK && number_at(state, 48) == 1);
+    assert(number_at(state, PHASE_AT) == GAFFREEL_VOLUME_WRITING_BACK && number_at(state, PLACE_AT) == 1);
     assert_reads(WRITTEN, 1);
 
     /* Nothing more is stored, and nothing acknowledged anew. */
@@ -253,16 +263,26 @@ static void test_refused_advance(void) {
     assert_counts(0, 0);
 }
 
-/* Bytes that are no state, and buffers of a wrong length. */
-static void test_malformed(void) {
+/* A state with another byte at this place is none. */
+static void assert_no_state(size_t at, uint8_t value) {
     uint8_t before[STATE];
     begin();
-    state[40] = 4;
+    state[at] = value;
     memcpy(before, state, STATE);
     memset(answer, MARK, ANSWER);
     assert(step() == GAFFREEL_LENGTH_OR_LIMIT);
     assert_answer(0, 0, 0);
     assert(memcmp(before, state, STATE) == 0);
+}
+
+/* Bytes that are no state, and buffers of a wrong length. */
+static void test_malformed(void) {
+    size_t i;
+    for (i = UNUSED_AT; i < LAYOUT; i++) {
+        assert_no_state(i, 1);
+    }
+    assert_no_state(PHASE_AT, 4);
+    assert_no_state(PLACE_AT, 1);
 
     memset(answer, MARK, ANSWER);
     assert(gaffreel_volume_flush(state, STATE, answer, ANSWER - 1) == GAFFREEL_LENGTH_OR_LIMIT);

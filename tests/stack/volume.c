@@ -52,7 +52,7 @@ uint64_t make_step(const struct given *g) {
 uint64_t make_next_store(const struct given *g) {
     uint64_t answered = CALL(gaffreel_volume_next_store, LENT(g->state), LENT(g->volume), LENT(g->staging), LENT(g->bytes),
                              LENT(g->answer));
-    if (answered == GAFFREEL_DONE && number_at(answer, 0) == 1) {
+    if (answered == GAFFREEL_DONE && number_at(answer, 0) == GAFFREEL_VOLUME_STORED) {
         memcpy(volume + number_at(answer, 8) * SECTOR, bytes, SECTOR);
     }
     return answered;

@@ -18,11 +18,11 @@ enum {
     /* The sectors of the largest section, and of the staging buffer for it. */
     LARGEST_SECTION = 168,
     /* Where a state has its phase, the two numbers of its place, its entries and its next commit id. */
-    PHASE_AT = 40,
-    PLACE_AT = 48,
-    HALF_AT = 56,
-    COUNT_AT = 64,
-    ID_AT = 72,
+    PHASE_AT = 64,
+    PLACE_AT = 72,
+    HALF_AT = 80,
+    COUNT_AT = 88,
+    ID_AT = 96,
     /* The sectors of the superblock, and of a section's metadata; where a sector of the journal has its commit id. */
     SUPERBLOCK = 8,
     METADATA = 8,

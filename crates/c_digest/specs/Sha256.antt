@@ -7,10 +7,10 @@
 use Prim.Native.Nat.{ℕ}
 use mathlib.Core.List.{List, [], _∷_}
 use lib.ListN.{length}
-use Rattle.octets.specs.Choice.{firstMet}
+use Rattle.octets.specs.Choice.{firstMet, differs}
 use Rattle.digest.specs.Pieces.{freshOf, updateOf, finishOf, digestOf}
 use Rattle.c_numbers.specs.Sizes.{digestSize, digestStateSize}
-use Rattle.c_numbers.specs.Outcome.{Outcome, wrongLength, carriedOut, refusedWith, answering, differs}
+use Rattle.c_numbers.specs.Outcome.{Outcome, wrongLength, carriedOut, refusedWith, answering}
 use Rattle.c_digest.specs.DigestState.{decodeOf, encodeOf}
 
 unfoldable pub sha256Call : List ℕ → List ℕ → Outcome

@@ -5,9 +5,9 @@ use mathlib.Core.List.{List, [], _∷_}
 use mathlib.Core.Logic.{_≢_}
 use mathlib.Core.Path.{_≡_, refl}
 use lib.ListN.{length}
-use Rattle.octets.specs.Choice.{firstMet}
+use Rattle.octets.specs.Choice.{firstMet, differs}
 use Rattle.c_numbers.specs.Sizes.{answerSize}
-use Rattle.c_numbers.specs.Outcome.{wrongLength, differs}
+use Rattle.c_numbers.specs.Outcome.{wrongLength}
 use Rattle.c_numbers.proofs.Outcomes.{length-differs, length-agrees}
 use Rattle.c_numbers.specs.Called.{Called, noValues, called, Keeps}
 

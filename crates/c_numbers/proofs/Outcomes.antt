@@ -7,8 +7,8 @@ use mathlib.Core.Logic.{_≢_}
 use mathlib.Core.Path.{_≡_, sym, ap, _∙_}
 use borrow.Author.Tests.{eq-eqb, ne-eqb}
 use Rattle.octets.specs.Answer.{Answer, taken, refused, isTaken, numberIn}
-use Rattle.octets.specs.Choice.{pick}
-use Rattle.c_numbers.specs.Outcome.{done, refusedWith, answering, differs}
+use Rattle.octets.specs.Choice.{pick, differs}
+use Rattle.c_numbers.specs.Outcome.{done, refusedWith, answering}
 
 -- ---- the row of a length l that is to be k; z is k as the code has it
 

@@ -12,10 +12,10 @@ use mathlib.Core.List.{List, [], _∷_}
 use mathlib.Core.Logic.{_≢_}
 use mathlib.Core.Path.{_≡_}
 use lib.ListN.{length}
-use Rattle.octets.specs.Choice.{firstMet}
+use Rattle.octets.specs.Choice.{firstMet, differs}
 use Rattle.c_numbers.specs.Numbers.{numberBytes}
 use Rattle.c_numbers.specs.Sizes.{answerSize}
-use Rattle.c_numbers.specs.Outcome.{done, wrongLength, differs}
+use Rattle.c_numbers.specs.Outcome.{done, wrongLength}
 
 pub record Called (A : Type 0) : Type 0 where
   -- the number that the call answers

@@ -5,7 +5,6 @@
 -- carriedOut b              : the call was carried out, and b is what the buffer then holds
 -- refusedWith n b           : the call was refused with the number n, and the buffer holds b as before
 -- answering a before after  : what a call leaves whose answer is a: where that is taken the buffer holds `after`, else `before`, which it held
--- differs m n               : whether m and n differ
 use Prim.Native.Nat.{ℕ}
 use mathlib.Core.Bool.{Bool, not}
 use mathlib.Core.List.{List}
@@ -33,6 +32,3 @@ refusedWith n b = record { number = n; buffer = b }
 abbrev pub answering : {Value A : Type 0} → Answer Value A → List ℕ → List ℕ → Outcome
 answering (taken x) before after = carriedOut after
 answering (refused r) before after = refusedWith (r .number) before
-
-abbrev pub differs : ℕ → ℕ → Bool
-differs m n = not (eqb m n)

@@ -18,10 +18,10 @@ abbrev pub levelSize : ℕ
 levelSize = 4
 
 abbrev pub layoutSize : ℕ
-layoutSize = 40
+layoutSize = 64
 
 abbrev pub volumeStateSize : ℕ
-volumeStateSize = 80
+volumeStateSize = 104
 
 abbrev pub answerSize : ℕ
 answerSize = 40

@@ -45,9 +45,9 @@ const DIGEST_STATE_SIZE: usize = 104;
 
 const LEVEL_SIZE: usize = 4;
 
-const LAYOUT_SIZE: usize = 40;
+const LAYOUT_SIZE: usize = 64;
 
-const VOLUME_STATE_SIZE: usize = 80;
+const VOLUME_STATE_SIZE: usize = 104;
 
 const ANSWER_SIZE: usize = 40;
 

@@ -10,8 +10,10 @@
 -- withCounts r n k          : the reply r with n and k as its fourth and fifth number
 -- plainReply a              : the reply to the answer a of format, write or read, which give nothing beside it
 -- flushReply a, ..          : the reply to the answer a of the call of that name
--- storedOf d, sectorOf d    : what a step did, as two numbers
--- saysOf x                  : what a step says, as a number
+-- didOf d                   : what a step did, as a number: 0 where it did nothing, 1 where it stored a sector
+-- sectorOf d                : the sector that it stored, else 0
+-- acknowledgedBit, fillingBit : the bits of what a step says
+-- saysOf x                  : what a step says, as bits
 -- openedBytes a s           : what the state's buffer s holds where open gave the answer a
 -- heldBytes a l             : what the layout's buffer l holds where query gave the answer a
 use Prim.Native.Nat.{ℕ}
@@ -75,24 +77,28 @@ abbrev pub queryReply : Answer ℕ (Layout × ℕ) → Reply
 queryReply (taken x) = carriedOut (x .1) 0 0 0 0
 queryReply (refused r) = refusedReply r
 
--- 1 where a sector was stored, else 0
-abbrev pub storedOf : Done → ℕ
-storedOf Idle = 0
-storedOf (Stored n) = 1
+abbrev pub didOf : Done → ℕ
+didOf Idle = 0
+didOf (Stored n) = 1
 
--- that sector, else 0
 abbrev pub sectorOf : Done → ℕ
 sectorOf Idle = 0
 sectorOf (Stored n) = n
 
+abbrev pub acknowledgedBit : ℕ
+acknowledgedBit = 1
+
+abbrev pub fillingBit : ℕ
+fillingBit = 2
+
 abbrev pub saysOf : Says → ℕ
 saysOf saying.Nothing = 0
-saysOf saying.Acknowledged = 1
-saysOf saying.Filling = 2
+saysOf saying.Acknowledged = acknowledgedBit
+saysOf saying.Filling = fillingBit
 
 -- with two numbers more, n and k, which a refusal has too
 abbrev pub stepReply : Answer ℕ (Done × Says) → ℕ → ℕ → Reply
-stepReply (taken x) n k = carriedOut (storedOf (x .0)) (sectorOf (x .0)) (saysOf (x .1)) n k
+stepReply (taken x) n k = carriedOut (didOf (x .0)) (sectorOf (x .0)) (saysOf (x .1)) n k
 stepReply (refused r) n k = withCounts (refusedReply r) n k
 
 -- ---- what open and query give

@@ -22,7 +22,17 @@ ghost use mathlib.Core.Path.{_≡_};
 ghost use lib.ListN.{length};
 ghost use Rattle.model.specs.Refusal.{refusalOf, formatAnswer, openAnswer, queryAnswer, writeAnswer, flushAnswer, stepAnswer, readAnswer};
 ghost use Rattle.c_numbers.specs.Sizes.{layoutSize, volumeStateSize, answerSize};
-ghost use Rattle.c_replies.specs.Replies.{answerBytesOf, carriedOut, refusedReply, withCounts, plainReply, flushReply, openReply, queryReply, storedOf, sectorOf, saysOf, stepReply, openedBytes, heldBytes};
+ghost use Rattle.c_replies.specs.Replies.{answerBytesOf, carriedOut, refusedReply, withCounts, plainReply, flushReply, openReply, queryReply, didOf, sectorOf, saysOf, stepReply, openedBytes, heldBytes};
+
+// What a step did.
+const IDLE: u64 = 0;
+
+const STORED: u64 = 1;
+
+// The bits of what a step says.
+const ACKNOWLEDGED: u64 = 1;
+
+const FILLING: u64 = 2;
 
 // What a call says: the number that it answers, and the five numbers that go to the answer's buffer.
 pub struct Reply {
@@ -160,13 +170,13 @@ pub fn query_reply(a: QueryAnswer) -> Reply
     }
 }
 
-// Whether a step stored a sector, as a number.
-fn stored(d: Done) -> u64
-    ensures { λ r. ⌜ r ≡ storedOf d ⌝ }
+// What a step did, as a number.
+fn did(d: Done) -> u64
+    ensures { λ r. ⌜ r ≡ didOf d ⌝ }
 {
     match d {
-        Done::Idle => 0,
-        Done::Stored(_) => 1,
+        Done::Idle => IDLE,
+        Done::Stored(_) => STORED,
     }
 }
 
@@ -180,14 +190,14 @@ fn sector_stored(d: Done) -> u64
     }
 }
 
-// What a step says, as a number.
+// What a step says, as bits.
 fn says(x: Says) -> u64
     ensures { λ r. ⌜ r ≡ saysOf x ⌝ }
 {
     match x {
         Says::Nothing => 0,
-        Says::Acknowledged => 1,
-        Says::Filling => 2,
+        Says::Acknowledged => ACKNOWLEDGED,
+        Says::Filling => FILLING,
     }
 }
 
@@ -196,13 +206,7 @@ pub fn step_reply(a: StepAnswer, fourth: u64, fifth: u64) -> Reply
     ensures { λ r. ⌜ r ≡ stepReply (stepAnswer a) fourth fifth ⌝ }
 {
     match a {
-        StepAnswer::Stepped(d, x) => carried_out(
-            stored(d),
-            sector_stored(d),
-            says(x),
-            fourth,
-            fifth,
-        ),
+        StepAnswer::Stepped(d, x) => carried_out(did(d), sector_stored(d), says(x), fourth, fifth),
         StepAnswer::Refused(r) => with_counts(refused(r), fourth, fifth),
     }
 }

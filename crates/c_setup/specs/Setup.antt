@@ -18,7 +18,7 @@ use Rattle.model.specs.Format.{FormatResult, formatOf}
 use Rattle.model.specs.Open.{OpenResult, openOf}
 use Rattle.model.specs.Query.{queryOf}
 use Rattle.c_numbers.specs.Sizes.{layoutSize, volumeStateSize}
-use Rattle.c_numbers.specs.Outcome.{differs}
+use Rattle.octets.specs.Choice.{differs}
 use Rattle.c_numbers.specs.Called.{Called, called, Keeps}
 use Rattle.c_replies.specs.Replies.{leaves, plainReply, openReply, queryReply, openedBytes, heldBytes}
 

@@ -17,12 +17,12 @@ use lib.IntN.{ℤ, pos, negsuc}
 use lib.ListN.{length}
 use Rattle.octets.specs.Numbers.{le, value}
 use Rattle.octets.specs.Answer.{Answer, taken, refused, numberIn}
-use Rattle.octets.specs.Choice.{pick, firstMet}
+use Rattle.octets.specs.Choice.{pick, firstMet, differs}
 use Rattle.tree_path.specs.Places.{lengthOf}
 use Rattle.tree.specs.Build.{BuildOutcome, buildOf}
 use Rattle.tree.specs.Verify.{verifyOf}
 use Rattle.c_numbers.specs.Sizes.{digestSize, levelSize}
-use Rattle.c_numbers.specs.Outcome.{Outcome, wrongLength, refusedWith, answering, differs}
+use Rattle.c_numbers.specs.Outcome.{Outcome, wrongLength, refusedWith, answering}
 
 -- ---- length
 

@@ -3,7 +3,7 @@
 use Prim.Native.Nat.{ℕ, _^_, _<_}
 use native.Mathlib.Omega.{arith}
 use mathlib.Core.Bool.{Bool, true, false, not, _&&_}
-use mathlib.Core.List.{List, [], append-nil}
+use mathlib.Core.List.{List, [], _∷_, append-nil}
 use mathlib.Core.Path.{_≡_, refl, sym, ap, _∙_}
 use lib.Dec.{eqb}
 use lib.ListN.{length, getD}
@@ -18,7 +18,7 @@ use Rattle.c_numbers.specs.Numbers.{numbersIn, numberBytes, numberAt}
 use Rattle.c_numbers.specs.Sizes.{volumeStateSize}
 use Rattle.c_volume_state.specs.declared.PhaseNumbers.{PhaseNumbers}
 use Rattle.c_volume_state.specs.Theorems.{DecodeEncode, EncodeBytes, EncodeDecode, DecodeState}
-use Rattle.c_volume_state.specs.VolumeState.{phaseNumbersOf, phaseOf, areNumbers, isPhase, layoutNumbersOf, layoutOf, stateNumbersOf, encodeOf, decodeOf, encodesState, IsState}
+use Rattle.c_volume_state.specs.VolumeState.{phaseNumbersOf, phaseOf, areNumbers, isPhase, layoutNumbersOf, layoutOf, stateNumbersOf, encodeOf, decodeOf, unusedAreZero, encodesState, IsState}
 use Rattle.c_numbers.proofs.NumberBytes.{length-number-bytes, bytes-number-bytes, number-at, bytes-of-numbers, number-below}
 
 both : (a b : Bool) → a && b ≡ true → (a ≡ true) × (b ≡ true)
@@ -34,9 +34,12 @@ phase-back (Committing j) = refl
 phase-back (WritingBack i h) = refl
 phase-back (Recovering k) = refl
 
+same-number : (n : ℕ) → eqb n n ≡ true
+same-number n = eq-eqb n n refl
+
 -- numbers are their own
 own-numbers : (q : PhaseNumbers) → areNumbers q (q .phase) (q .first) (q .second) ≡ true
-own-numbers q = rw (eq-eqb (q .phase) (q .phase) refl, eq-eqb (q .first) (q .first) refl, eq-eqb (q .second) (q .second) refl)
+own-numbers q = simp same-number
 
 phase-numbers : (p : Phase) → isPhase (phaseNumbersOf p .phase) (phaseNumbersOf p .first) (phaseNumbersOf p .second) ≡ true
 unfolding isPhase
@@ -83,17 +86,26 @@ module _ (s : State) where
           number-back 4 (s .layout .provided) (omega arith) refl (v .provided),
         )
 
-    which-back : numberAt (encodeOf s) 5 ≡ phaseNumbersOf (s .phase) .phase
+    which-back : numberAt (encodeOf s) 8 ≡ phaseNumbersOf (s .phase) .phase
     unfolding layoutNumbersOf stateNumbersOf
-    which-back = number-back 5 (phaseNumbersOf (s .phase) .phase) (omega arith) refl phase-bound
+    which-back = number-back 8 (phaseNumbersOf (s .phase) .phase) (omega arith) refl phase-bound
 
-    first-back : numberAt (encodeOf s) 6 ≡ phaseNumbersOf (s .phase) .first
+    first-back : numberAt (encodeOf s) 9 ≡ phaseNumbersOf (s .phase) .first
     unfolding layoutNumbersOf stateNumbersOf
-    first-back = number-back 6 (phaseNumbersOf (s .phase) .first) (omega arith) refl (v .first)
+    first-back = number-back 9 (phaseNumbersOf (s .phase) .first) (omega arith) refl (v .first)
 
-    second-back : numberAt (encodeOf s) 7 ≡ phaseNumbersOf (s .phase) .second
+    second-back : numberAt (encodeOf s) 10 ≡ phaseNumbersOf (s .phase) .second
     unfolding layoutNumbersOf stateNumbersOf
-    second-back = number-back 7 (phaseNumbersOf (s .phase) .second) (omega arith) refl (v .second)
+    second-back = number-back 10 (phaseNumbersOf (s .phase) .second) (omega arith) refl (v .second)
+
+  unused-back : unusedAreZero (encodeOf s) ≡ true
+  unfolding layoutNumbersOf stateNumbersOf unusedAreZero
+  unused-back =
+      simp (
+        number-back 5 0 (omega arith) refl (omega arith),
+        number-back 6 0 (omega arith) refl (omega arith),
+        number-back 7 0 (omega arith) refl (omega arith),
+      )
 
 -- every state is read back from its bytes
 pub decode-encode : DecodeEncode
@@ -105,8 +117,8 @@ decode-encode s v =
       first-back s v,
       second-back s v,
       phase-back (s .phase),
-      number-back s 8 (s .count) (omega arith) refl (v .count),
-      number-back s 9 (s .id) (omega arith) refl (v .id),
+      number-back s 11 (s .count) (omega arith) refl (v .count),
+      number-back s 12 (s .id) (omega arith) refl (v .id),
     )
 
 -- which are bytes that encode a state
@@ -117,43 +129,68 @@ length-of-state s = length-number-bytes 8 (stateNumbersOf s)
 pub encode-bytes : EncodeBytes
 unfolding encodesState
 encode-bytes s v = (
-  rw (eq-eqb (length (encodeOf s)) volumeStateSize (length-of-state s), which-back s v, first-back s v, second-back s v) (phase-numbers (s .phase)),
+  rw (
+    eq-eqb (length (encodeOf s)) volumeStateSize (length-of-state s),
+    unused-back s,
+    which-back s v,
+    first-back s v,
+    second-back s v,
+  ) (phase-numbers (s .phase)),
   bytes-number-bytes 8 (stateNumbersOf s),
 )
 
-pub encodes-length : (b : List ℕ) → encodesState b ≡ true → length b ≡ volumeStateSize
-unfolding encodesState
-encodes-length b e =
-    eqb-true (length b) volumeStateSize (both (eqb (length b) volumeStateSize) (isPhase (numberAt b 5) (numberAt b 6) (numberAt b 7)) e .0)
+-- what is known of bytes that encode a state
+module _ (b : List ℕ) (e : encodesState b ≡ true) where
+  tested : (eqb (length b) volumeStateSize ≡ true) × (unusedAreZero b && isPhase (numberAt b 8) (numberAt b 9) (numberAt b 10) ≡ true)
+  unfolding encodesState
+  tested = both (eqb (length b) volumeStateSize) (unusedAreZero b && isPhase (numberAt b 8) (numberAt b 9) (numberAt b 10)) e
 
-encodes-phase : (b : List ℕ) → encodesState b ≡ true → isPhase (numberAt b 5) (numberAt b 6) (numberAt b 7) ≡ true
-unfolding encodesState
-encodes-phase b e = both (eqb (length b) volumeStateSize) (isPhase (numberAt b 5) (numberAt b 6) (numberAt b 7)) e .1
+  pub encodes-length : length b ≡ volumeStateSize
+  encodes-length = eqb-true (length b) volumeStateSize (tested .0)
+
+  encodes-unused : (numberAt b 5 ≡ 0) × (numberAt b 6 ≡ 0) × (numberAt b 7 ≡ 0)
+  unfolding unusedAreZero
+  encodes-unused =
+      let zeros = both (unusedAreZero b) (isPhase (numberAt b 8) (numberAt b 9) (numberAt b 10)) (tested .1) .0 in
+      let one = both (eqb (numberAt b 5) 0) (eqb (numberAt b 6) 0 && eqb (numberAt b 7) 0) zeros in
+      let two = both (eqb (numberAt b 6) 0) (eqb (numberAt b 7) 0) (one .1) in
+      (eqb-true (numberAt b 5) 0 (one .0), eqb-true (numberAt b 6) 0 (two .0), eqb-true (numberAt b 7) 0 (two .1))
+
+  phase-held : phaseNumbersOf (phaseOf (numberAt b 8) (numberAt b 9) (numberAt b 10)) ≡ record { phase = numberAt b 8; first = numberAt b 9; second = numberAt b 10 }
+  phase-held =
+      phase-numbers-back (numberAt b 8) (numberAt b 9) (numberAt b 10)
+      (both (unusedAreZero b) (isPhase (numberAt b 8) (numberAt b 9) (numberAt b 10)) (tested .1) .1)
 
 -- bytes that encode a state are those of the state read from them
 pub encode-decode : EncodeDecode
 unfolding decodeOf layoutOf layoutNumbersOf stateNumbersOf numbersIn
 encode-decode b h e =
     let size : length b ≡ volumeStateSize = encodes-length b e in
-    rw (phase-numbers-back (numberAt b 5) (numberAt b 6) (numberAt b 7) (encodes-phase b e)) (bytes-of-numbers 8 10 b h (omega arith))
-    ∙ take-all 80 b (omega arith)
+    let none = encodes-unused b e in
+    let phase = phase-held b e in
+    (λ i.
+    numberBytes 8
+    (numberAt b 0 ∷ numberAt b 1 ∷ numberAt b 2 ∷ numberAt b 3 ∷ numberAt b 4 ∷ sym (none .0) i ∷ sym (none .1) i ∷ sym (none .2) i
+    ∷ phase i .phase ∷ phase i .first ∷ phase i .second ∷ numberAt b 11 ∷ numberAt b 12 ∷ []))
+    ∙ bytes-of-numbers 8 13 b h (omega arith)
+    ∙ take-all volumeStateSize b (omega arith)
 
 -- and that is a state
 pub decode-state : DecodeState
 unfolding decodeOf layoutOf
 decode-state b h e =
     let size : length b ≡ volumeStateSize = encodes-length b e in
-    let back = phase-numbers-back (numberAt b 5) (numberAt b 6) (numberAt b 7) (encodes-phase b e) in
+    let back = phase-held b e in
     record {
       reserved = number-below 8 0 b h (omega arith);
       shift = number-below 8 1 b h (omega arith);
       width = number-below 8 2 b h (omega arith);
       sections = number-below 8 3 b h (omega arith);
       provided = number-below 8 4 b h (omega arith);
-      first = rw back (number-below 8 6 b h (omega arith));
-      second = rw back (number-below 8 7 b h (omega arith));
-      count = number-below 8 8 b h (omega arith);
-      id = number-below 8 9 b h (omega arith);
+      first = rw back (number-below 8 9 b h (omega arith));
+      second = rw back (number-below 8 10 b h (omega arith));
+      count = number-below 8 11 b h (omega arith);
+      id = number-below 8 12 b h (omega arith);
     }
 
 -- ---- as the calls cite it

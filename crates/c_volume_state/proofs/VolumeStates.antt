@@ -1,10 +1,10 @@
 -- The code over a state's buffer: a state put together and taken apart.
-use Prim.Native.Nat.{ℕ}
+use Prim.Native.Nat.{ℕ, _≤_}
 use native.Mathlib.Omega.{arith}
 use mathlib.Core.Bool.{Bool, false, _&&_}
 use mathlib.Core.List.{List, [], _∷_}
 use mathlib.Core.Logic.{_≢_}
-use mathlib.Core.Path.{_≡_, sym, ap, _∙_}
+use mathlib.Core.Path.{_≡_, refl, sym, ap, _∙_}
 use lib.Dec.{eqb}
 use lib.ListN.{length}
 use borrow.Author.Tests.{eq-eqb, ne-eqb}
@@ -16,7 +16,7 @@ use Rattle.model.specs.declared.State.{State}
 use Rattle.c_volume_state.specs.declared.PhaseNumbers.{PhaseNumbers}
 use Rattle.c_numbers.specs.Numbers.{numberBytes, numberAt}
 use Rattle.c_numbers.specs.Sizes.{layoutSize, volumeStateSize}
-use Rattle.c_volume_state.specs.VolumeState.{phaseNumbersOf, phaseOf, areNumbers, isPhase, layoutNumbersOf, layoutBytesOf, layoutOf, stateNumbersOf, encodeOf, decodeOf, encodesState}
+use Rattle.c_volume_state.specs.VolumeState.{phaseNumbersOf, phaseOf, areNumbers, isPhase, layoutNumbersOf, layoutBytesOf, layoutOf, stateNumbersOf, encodeOf, decodeOf, unusedAreZero, encodesState}
 use Rattle.c_numbers.proofs.NumberBytes.{all-written, more-written}
 
 -- ---- a phase of three numbers
@@ -51,6 +51,14 @@ pub layout-written : (g : Layout) (b c : List ℕ) → length b ≡ layoutSize �
 unfolding layoutNumbersOf
 layout-written g b c size e = all-written b c (layoutNumbersOf g) (sym size) e
 
+-- a layout's numbers that have a meaning, then the others
+pub layout-put : (g : Layout) (b c d : List ℕ) → layoutSize ≤ length b
+    → c ≡ patch b 0 (numberBytes 8 (g .reserved ∷ g .shift ∷ g .width ∷ g .sections ∷ g .provided ∷ []))
+    → d ≡ patch c 40 (numberBytes 8 (0 ∷ 0 ∷ 0 ∷ [])) → d ≡ patch b 0 (layoutBytesOf g)
+unfolding layoutNumbersOf
+layout-put g b c d fits ec ed =
+    more-written b c d 0 40 (g .reserved ∷ g .shift ∷ g .width ∷ g .sections ∷ g .provided ∷ []) (0 ∷ 0 ∷ 0 ∷ []) refl (omega arith) ec ed
+
 -- layout, phase, count and id, written one behind the other
 pub written : (s : State) (b c d : List ℕ) (q : PhaseNumbers) → length b ≡ volumeStateSize → q ≡ phaseNumbersOf (s .phase)
     → c ≡ patch b 0 (layoutBytesOf (s .layout))
@@ -69,11 +77,11 @@ module _ (b : List ℕ) where
   unfolding layoutOf
   layout-read r h w n p er eh ew en ep = rw (er, eh, ew, en, ep)
 
-  pub state-read : (g : Layout) (p : Phase) (q x y n i : ℕ) → g ≡ layoutOf b → q ≡ numberAt b 5 → x ≡ numberAt b 6 → y ≡ numberAt b 7
-      → p ≡ phaseOf q x y → n ≡ numberAt b 8 → i ≡ numberAt b 9 → record { layout = g; phase = p; count = n; id = i } ≡ decodeOf b
+  pub state-read : (g : Layout) (p : Phase) (q x y n i : ℕ) → g ≡ layoutOf b → q ≡ numberAt b 8 → x ≡ numberAt b 9 → y ≡ numberAt b 10
+      → p ≡ phaseOf q x y → n ≡ numberAt b 11 → i ≡ numberAt b 12 → record { layout = g; phase = p; count = n; id = i } ≡ decodeOf b
   unfolding decodeOf
   state-read g p q x y n i eg eq ex ey ep en ei =
-      let phase : p ≡ phaseOf (numberAt b 5) (numberAt b 6) (numberAt b 7) = rw (eq, ex, ey) at ep in
+      let phase : p ≡ phaseOf (numberAt b 8) (numberAt b 9) (numberAt b 10) = rw (eq, ex, ey) at ep in
       rw (eg, phase, en, ei)
 
   module _ {z : ℕ} (ez : z ≡ volumeStateSize) where
@@ -81,7 +89,7 @@ module _ (b : List ℕ) where
     unfolding encodesState
     wrong-size h = rw (ne-eqb (length b) volumeStateSize (λ e. h (e ∙ sym ez)))
 
-    pub phase-tested : (r : Bool) (q x y : ℕ) → length b ≡ z → q ≡ numberAt b 5 → x ≡ numberAt b 6 → y ≡ numberAt b 7 → r ≡ isPhase q x y
-        → r ≡ encodesState b
+    pub state-tested : (u r : Bool) (q x y : ℕ) → length b ≡ z → q ≡ numberAt b 8 → x ≡ numberAt b 9 → y ≡ numberAt b 10 → u ≡ unusedAreZero b
+        → r ≡ isPhase q x y → u && r ≡ encodesState b
     unfolding encodesState
-    phase-tested r q x y size eq ex ey er = rw (eq-eqb (length b) volumeStateSize (size ∙ ez), ← eq, ← ex, ← ey) er
+    state-tested u r q x y size eq ex ey eu er = rw (eq-eqb (length b) volumeStateSize (size ∙ ez), ← eq, ← ex, ← ey, ← eu, ← er)

@@ -1,17 +1,19 @@
 -- How a volume's state and its layout lie in a buffer. R52, R54.
 --
--- A state is ten numbers, a layout five, of 8 bytes each, little-endian.
+-- A state is thirteen numbers, a layout eight, of 8 bytes each, little-endian. The last three of a layout have no meaning yet.
 --
 -- phaseNumbersOf p          : the phase p as three numbers: which it is, and the two of its place, 0 where it has none
 -- phaseOf p x y             : the phase of the numbers p, x, y
--- isPhase p x y             : whether they are those of a phase, which is to say those of the phase read from them
--- layoutNumbersOf g         : the numbers of the layout g
+-- areNumbers q p x y        : whether the numbers q of a phase are p, x and y
+-- isPhase p x y             : whether the numbers p, x, y are those of a phase, which is to say those of the phase read from them
+-- layoutNumbersOf g         : the numbers of the layout g, of which those that have no meaning yet are 0
 -- layoutBytesOf g           : its bytes
 -- layoutOf b                : the layout whose numbers b begins with
 -- stateNumbersOf s          : the numbers of the state s: layout, phase, count and id
 -- encodeOf s                : its bytes
 -- decodeOf b                : the state in the bytes b
--- encodesState b            : whether b has the length of a state, and the numbers of a phase in their places
+-- unusedAreZero b           : whether the numbers in b that have no meaning yet are 0
+-- encodesState b            : whether b has the length of a state, zeros for the numbers without a meaning, and the numbers of a phase in their places
 -- IsState s                 : s is a state that the code's type can hold
 use Prim.Native.Nat.{ℕ, _^_, _<_}
 use mathlib.Core.Bool.{Bool, _&&_}
@@ -47,7 +49,7 @@ isPhase p x y = areNumbers (phaseNumbersOf (phaseOf p x y)) p x y
 -- ---- layouts
 
 unfoldable pub layoutNumbersOf : Layout → List ℕ
-layoutNumbersOf g = g .reserved ∷ g .shift ∷ g .width ∷ g .sections ∷ g .provided ∷ []
+layoutNumbersOf g = g .reserved ∷ g .shift ∷ g .width ∷ g .sections ∷ g .provided ∷ 0 ∷ 0 ∷ 0 ∷ []
 
 abbrev pub layoutBytesOf : Layout → List ℕ
 layoutBytesOf g = numberBytes 8 (layoutNumbersOf g)
@@ -81,13 +83,16 @@ unfoldable pub decodeOf : List ℕ → State
 decodeOf b =
     record {
       layout = layoutOf b;
-      phase = phaseOf (numberAt b 5) (numberAt b 6) (numberAt b 7);
-      count = numberAt b 8;
-      id = numberAt b 9;
+      phase = phaseOf (numberAt b 8) (numberAt b 9) (numberAt b 10);
+      count = numberAt b 11;
+      id = numberAt b 12;
     }
 
+unfoldable pub unusedAreZero : List ℕ → Bool
+unusedAreZero b = eqb (numberAt b 5) 0 && (eqb (numberAt b 6) 0 && eqb (numberAt b 7) 0)
+
 unfoldable pub encodesState : List ℕ → Bool
-encodesState b = eqb (length b) volumeStateSize && isPhase (numberAt b 5) (numberAt b 6) (numberAt b 7)
+encodesState b = eqb (length b) volumeStateSize && (unusedAreZero b && isPhase (numberAt b 8) (numberAt b 9) (numberAt b 10))
 
 -- every number has 64 bits
 pub record IsState (s : State) : Type 0 where

@@ -1,11 +1,13 @@
 // A volume's state and layout in a buffer: specs/VolumeState.antt.
 //
-// A state is ten numbers of 8 bytes each, little-endian: the layout's five, which phase, the two of its place, the count, the id.
+// A state is thirteen numbers of 8 bytes each, little-endian: the layout's eight, of which the last three have no meaning yet and are 0, which phase, the
+// two of its place, the count, the id.
 //
 // These are functions for crate c_replies and the volume's calls on buffers. The calls test a buffer's length once; so a function here may have a
 // `requires`, and every caller shows it.
 use c_numbers::number_at;
 use c_numbers::put_five;
+use c_numbers::put_three;
 use c_numbers::volume_state_size;
 use model::Layout;
 use model::Phase;
@@ -15,18 +17,18 @@ ghost use Prim.Native.Nat.{_≤_};
 ghost use lib.ListN.{length};
 ghost use Rattle.octets.specs.Parts.{patch};
 ghost use Rattle.c_numbers.specs.Sizes.{layoutSize, volumeStateSize};
-ghost use Rattle.c_volume_state.specs.VolumeState.{phaseNumbersOf, phaseOf, isPhase, layoutBytesOf, layoutOf, encodeOf, decodeOf, encodesState};
+ghost use Rattle.c_volume_state.specs.VolumeState.{phaseNumbersOf, phaseOf, isPhase, layoutBytesOf, layoutOf, encodeOf, decodeOf, unusedAreZero, encodesState};
 
 // The places of a state's numbers behind its layout's.
-const PHASE: usize = 5;
+const PHASE: usize = 8;
 
-const FIRST: usize = 6;
+const FIRST: usize = 9;
 
-const SECOND: usize = 7;
+const SECOND: usize = 10;
 
-const COUNT: usize = 8;
+const COUNT: usize = 11;
 
-const ID: usize = 9;
+const ID: usize = 12;
 
 // The number of each phase.
 const FILLING: u64 = 0;
@@ -110,6 +112,7 @@ pub fn put_layout(g: Layout, buffer: &mut [u8])
         g.sections as u64,
         g.provided as u64,
     );
+    put_three(buffer, 5, 0, 0, 0);
 }
 
 // A state written over a buffer of its length.
@@ -132,6 +135,17 @@ pub fn encode(s: State, buffer: &mut [u8])
     );
 }
 
+// Whether the numbers of a state that have no meaning yet are 0.
+fn unused_are_zero(buffer: &[u8]) -> bool
+    requires { ⌜ length (now buffer) ≡ volumeStateSize ⌝ }
+    ensures { λ r. ⌜ r ≡ unusedAreZero (now (buffer .entry)) ⌝ }
+{
+    let a = number_at(buffer, 5);
+    let b = number_at(buffer, 6);
+    let c = number_at(buffer, 7);
+    (a == 0) & ((b == 0) & (c == 0))
+}
+
 // Whether a buffer holds a state.
 pub fn encodes_state(buffer: &[u8]) -> bool
     ensures { λ r. ⌜ r ≡ encodesState (now (buffer .entry)) ⌝ }
@@ -142,7 +156,7 @@ pub fn encodes_state(buffer: &[u8]) -> bool
     let phase = number_at(buffer, PHASE);
     let first = number_at(buffer, FIRST);
     let second = number_at(buffer, SECOND);
-    is_phase(phase, first, second)
+    unused_are_zero(buffer) & is_phase(phase, first, second)
 }
 
 // The layout that a buffer begins with.

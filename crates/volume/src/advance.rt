@@ -117,7 +117,8 @@ fn replay_from(
     content: &mut [u8; SECTOR_SIZE],
 ) -> Advanced
     requires { ⌜ Scanned before k (now v) (now ids) ⌝ }
-    ensures { λ r. ⌜ ((st : List ℕ) → stagingOk (before .state .layout) st ≡ true → advanced r (now (v .exit)) st ≡ advanceFrom (r .done) (advanced before (now (v .entry)) st)) × (r .done ≤ n) ⌝ }
+    ensures { λ r. ⌜ ((st : List ℕ) → stagingOk (before .state .layout) st ≡ true
+        → advanced r (now (v .exit)) st ≡ advanceFrom (r .done) (advanced before (now (v .entry)) st)) × (r .done ≤ n) ⌝ }
 {
     let s = before.state;
     let g = s.layout;
@@ -156,7 +157,8 @@ fn recover(
     content: &mut [u8; SECTOR_SIZE],
 ) -> Advanced
     requires { ⌜ (before .done ≡ 0) × (before .state .phase ≡ Phase.Recovering k) ⌝ }
-    ensures { λ r. ⌜ (advanced r (now (v .exit)) (now (st .entry)) ≡ advanceFrom (r .done) (advanced before (now (v .entry)) (now (st .entry)))) × (r .done ≤ n) ⌝ }
+    ensures { λ r. ⌜ (advanced r (now (v .exit)) (now (st .entry)) ≡ advanceFrom (r .done) (advanced before (now (v .entry)) (now (st .entry))))
+        × (r .done ≤ n) ⌝ }
 {
     let s = before.state;
     if !state::state_ok(s) {

@@ -177,7 +177,7 @@ pub fn query(volume: &[u8], reserved: u64) -> Result<Queried, Refusal> {
     let reply = Reply::of(|answer| ffi::volume_query(volume, size(reserved), &mut layout, answer));
     let [staging_length, ..] = reply.done()?;
     Ok(Queried {
-        layout: Layout::from_bytes(layout),
+        layout: Layout::from_bytes(layout).expect("a query leaves a layout"),
         staging_length: size(staging_length),
     })
 }
@@ -292,6 +292,14 @@ pub fn read(
     Ok(())
 }
 
+/// What a step did, as the C interface has it.
+const IDLE: u64 = 0;
+const STORED: u64 = 1;
+
+/// What a step says, as the C interface has it: a bit each, of which a step says one at most.
+const ACKNOWLEDGED: u64 = 1;
+const FILLING: u64 = 2;
+
 /// What a call of the C interface says: the number that it answers, and the numbers in the answer's buffer.
 struct Reply {
     number: u32,
@@ -331,16 +339,20 @@ impl Reply {
         &values[..size(*count)]
     }
 
-    /// What a step says.
+    /// What a step did and says.
     fn stepped(&self) -> Result<Stepped, Refusal> {
-        let [stored, sector, said, ..] = self.done()?;
+        let [did, sector, says, ..] = self.done()?;
         Ok(Stepped {
-            stored: (stored != 0).then_some(sector),
-            said: match said {
+            stored: match did {
+                IDLE => None,
+                STORED => Some(sector),
+                other => unreachable!("the C interface has no step that did {other}"),
+            },
+            said: match says {
                 0 => Said::Nothing,
-                1 => Said::Acknowledged,
-                2 => Said::Filling,
-                other => unreachable!("the C interface has no step that says {other}"),
+                ACKNOWLEDGED => Said::Acknowledged,
+                FILLING => Said::Filling,
+                other => unreachable!("the C interface has no step that says {other:#b}"),
             },
         })
     }

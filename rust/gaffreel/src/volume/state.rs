@@ -1,10 +1,10 @@
 //! A volume's parameters and state, and the bytes that the C interface has for them: numbers of 8 bytes, little-endian.
 
 /// A layout's length in bytes.
-pub const LAYOUT_LENGTH: usize = 40;
+pub const LAYOUT_LENGTH: usize = 64;
 
 /// A state's length in bytes.
-pub const STATE_LENGTH: usize = 80;
+pub const STATE_LENGTH: usize = 104;
 
 /// A volume's parameters. Any numbers may stand in it; [`format`](super::format) names their ranges.
 #[derive(Clone, Copy, Debug, PartialEq, Eq)]
@@ -59,33 +59,39 @@ pub struct State {
 }
 
 impl Layout {
-    /// The layout that bytes hold.
-    pub fn from_bytes(bytes: [u8; LAYOUT_LENGTH]) -> Layout {
+    /// The layout that bytes hold, if they hold one: the three numbers that have no meaning yet are 0.
+    pub fn from_bytes(bytes: [u8; LAYOUT_LENGTH]) -> Option<Layout> {
         Layout::from_numbers(numbers(&bytes))
     }
 
-    /// The layout's bytes: the five numbers in the order of the fields.
+    /// The layout's bytes: the numbers in the order of the fields, then three that have no meaning yet, 0.
     pub fn to_bytes(&self) -> [u8; LAYOUT_LENGTH] {
         bytes(&self.to_numbers())
     }
 
-    fn from_numbers([reserved, log2_run, tag_size, sections, provided]: [u64; 5]) -> Layout {
-        Layout {
+    fn from_numbers(numbers: [u64; 8]) -> Option<Layout> {
+        let [reserved, log2_run, tag_size, sections, provided, 0, 0, 0] = numbers else {
+            return None;
+        };
+        Some(Layout {
             reserved,
             log2_run,
             tag_size,
             sections,
             provided,
-        }
+        })
     }
 
-    fn to_numbers(self) -> [u64; 5] {
+    fn to_numbers(self) -> [u64; 8] {
         [
             self.reserved,
             self.log2_run,
             self.tag_size,
             self.sections,
             self.provided,
+            0,
+            0,
+            0,
         ]
     }
 }
@@ -113,27 +119,27 @@ impl Phase {
 }
 
 impl State {
-    /// The state that bytes hold, if they hold one: the phase is 0 to 3, and its place has no number that it lacks.
+    /// The state that bytes hold, if they hold one: the layout is one, the phase is 0 to 3, and its place has no number
+    /// that it lacks.
     pub fn from_bytes(bytes: [u8; STATE_LENGTH]) -> Option<State> {
-        let [reserved, log2_run, tag_size, sections, provided, phase, first, second, count, id] =
-            numbers(&bytes);
+        let [phase, first, second, count, id] = numbers(&bytes[LAYOUT_LENGTH..]);
         Some(State {
-            layout: Layout::from_numbers([reserved, log2_run, tag_size, sections, provided]),
+            layout: Layout::from_numbers(numbers(&bytes))?,
             phase: Phase::from_numbers([phase, first, second])?,
             count,
             id,
         })
     }
 
-    /// The state's bytes: the layout's five numbers; the phase, 0 to 3 in the order of [`Phase`]; the first and the
-    /// second number of its place, 0 where it has none; count; id.
+    /// The state's bytes: the layout's; the phase, 0 to 3 in the order of [`Phase`]; the first and the second number of its
+    /// place, 0 where it has none; count; id.
     pub fn to_bytes(&self) -> [u8; STATE_LENGTH] {
-        let [reserved, log2_run, tag_size, sections, provided] = self.layout.to_numbers();
         let [phase, first, second] = self.phase.to_numbers();
-        bytes(&[
-            reserved, log2_run, tag_size, sections, provided, phase, first, second, self.count,
-            self.id,
-        ])
+        let mut numbers = [0; STATE_LENGTH / 8];
+        let (layout, behind) = numbers.split_at_mut(LAYOUT_LENGTH / 8);
+        layout.copy_from_slice(&self.layout.to_numbers());
+        behind.copy_from_slice(&[phase, first, second, self.count, self.id]);
+        bytes(&numbers)
     }
 }
 

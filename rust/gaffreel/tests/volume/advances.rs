@@ -10,7 +10,7 @@ use reference::volume::{self, Half, Layout, Phase, State};
 use volumes::any::{any_layout, any_section, small_layout, with_journal};
 use volumes::{empty_staging, formatted, geometry, section, Entry};
 
-/// What a step says that acknowledges the batch.
+/// The bit of what a step says that acknowledges the batch.
 const ACKNOWLEDGED: u64 = 1;
 
 /// The number where a sector is not provided.
@@ -48,7 +48,7 @@ fn same_as_single_steps(loans: &Loans, steps: u64) {
         number = last;
         if number == DONE {
             done += u64::from(first != 0);
-            acknowledged |= u64::from(third == ACKNOWLEDGED);
+            acknowledged |= u64::from(third & ACKNOWLEDGED != 0);
         }
         expected = [first, second, third, done, acknowledged];
     }

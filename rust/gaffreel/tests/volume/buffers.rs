@@ -1,6 +1,7 @@
 //! Buffers of wrong lengths, and state buffers of any bytes.
 
 use crate::by_reference::{holds_state, numbers_in, put_numbers};
+use crate::by_reference::{COUNT, ID, PHASE, UNUSED};
 use crate::loans::{Buffers, Loans};
 use gaffreel::volume::{State, MOST_SECTORS, STATE_LENGTH};
 use random::{cases, Lent, Random};
@@ -106,8 +107,8 @@ fn spoil_state(random: &mut Random, buffer: &mut [u8]) {
     for _ in 0..random.length(1..=2) {
         // The phase and its place, count and id; seldom the layout.
         let place = match random.number() % 8 {
-            0 => random.length(0..=4),
-            _ => random.length(5..=9),
+            0 => random.length(0..=PHASE - 1),
+            _ => random.length(PHASE..=ID),
         };
         let number = match random.number() % 3 {
             0 => random.number() % 6,
@@ -140,14 +141,16 @@ fn states_from_bytes() {
         random.fill(&mut bytes);
         let phase = random.number() % 5;
         let place = [random.pick(&[0, 0, 1, 9]), random.pick(&[0, 0, 1, 2])];
-        put_numbers(&mut bytes[40..], &[phase, place[0], place[1]]);
+        let unused = [0; 3].map(|none| random.pick(&[none, none, none, 1, 1 << 56]));
+        let numbers = [&unused[..], &[phase], &place].concat();
+        put_numbers(&mut bytes[8 * UNUSED..], &numbers);
         let state = State::from_bytes(bytes);
         assert_eq!(state.is_some(), holds_state(&bytes));
         if let Some(state) = state {
             assert_eq!(state.to_bytes(), bytes);
             let numbers = numbers_in(&bytes);
             assert_eq!(state.layout.provided, numbers[4]);
-            assert_eq!((state.count, state.id), (numbers[8], numbers[9]));
+            assert_eq!((state.count, state.id), (numbers[COUNT], numbers[ID]));
         }
     });
 }

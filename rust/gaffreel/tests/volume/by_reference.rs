@@ -6,16 +6,19 @@ use reference::volume::{self, Flushed, Half, Layout, Phase, Refusal, Said, State
 
 const WRONG_LENGTH: u32 = 1;
 
+/// The place of the first of a layout's numbers that have no meaning yet; the last three have none.
+pub const UNUSED: usize = 5;
+
 /// The places of a state's numbers behind those of its layout: the phase, the two of its place, the entries of the batch,
 /// the next id.
-pub const PHASE: usize = 5;
-pub const FIRST: usize = 6;
-pub const SECOND: usize = 7;
-pub const COUNT: usize = 8;
-pub const ID: usize = 9;
+pub const PHASE: usize = 8;
+pub const FIRST: usize = 9;
+pub const SECOND: usize = 10;
+pub const COUNT: usize = 11;
+pub const ID: usize = 12;
 
 /// The numbers of a state.
-pub type StateNumbers = [u64; 10];
+pub type StateNumbers = [u64; 13];
 
 /// The numbers of the phases.
 pub const FILLING: u64 = 0;
@@ -208,21 +211,27 @@ fn step_numbers(stepped: Stepped) -> Numbers {
 }
 
 /// The numbers of a layout, which are the first of a state.
-pub fn layout_numbers(layout: &Layout) -> [u64; 5] {
+pub fn layout_numbers(layout: &Layout) -> [u64; 8] {
     [
         layout.reserved,
         layout.log2_run,
         layout.tag_size,
         layout.sections,
         layout.provided,
+        0,
+        0,
+        0,
     ]
 }
 
-/// Whether a buffer holds a state: it has the length, its phase is 0 to 3, and place numbers that the phase lacks are 0.
+/// Whether a buffer holds a state: it has the length, numbers that have no meaning yet are 0, its phase is 0 to 3, and place
+/// numbers that the phase lacks are 0.
 pub fn holds_state(buffer: &[u8]) -> bool {
+    let numbers = numbers_in(buffer);
     buffer.len() == STATE_LENGTH
+        && numbers[UNUSED..PHASE] == [0, 0, 0]
         && matches!(
-            numbers_in(buffer)[5..8],
+            numbers[PHASE..=SECOND],
             [0, 0, 0] | [1, _, 0] | [2, _, _] | [3, _, 0]
         )
 }
@@ -233,8 +242,8 @@ fn state_in(buffer: &[u8]) -> Result<State, Refusal> {
         return Err(Refusal::LengthOrState);
     }
     let numbers = numbers_in(buffer);
-    let (first, second) = (numbers[6], numbers[7]);
-    let phase = match (numbers[5], second) {
+    let (first, second) = (numbers[FIRST], numbers[SECOND]);
+    let phase = match (numbers[PHASE], second) {
         (0, _) => Phase::Filling,
         (1, _) => Phase::Committing { sector: first },
         (2, 0) => Phase::WritingBack {
@@ -257,8 +266,8 @@ fn state_in(buffer: &[u8]) -> Result<State, Refusal> {
             provided: numbers[4],
         },
         phase,
-        count: numbers[8],
-        id: numbers[9],
+        count: numbers[COUNT],
+        id: numbers[ID],
     })
 }
 
@@ -274,9 +283,8 @@ pub fn put_state(buffer: &mut [u8], state: &State) {
         Phase::Recovering { store } => [3, store, 0],
     };
     let layout = layout_numbers(&state.layout);
-    put_numbers(&mut buffer[..40], &layout);
-    put_numbers(&mut buffer[40..64], &place);
-    put_numbers(&mut buffer[64..], &[state.count, state.id]);
+    let behind = [state.count, state.id];
+    put_numbers(buffer, &[&layout[..], &place, &behind].concat());
 }
 
 /// The numbers in a buffer.

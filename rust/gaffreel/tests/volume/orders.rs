@@ -4,7 +4,7 @@
 use crate::buffers::wrong_length;
 use crate::by_reference::{layout_numbers, put_numbers, StateNumbers};
 use crate::by_reference::{COMMITTING, FILLING, RECOVERING, WRITING_BACK};
-use crate::by_reference::{COUNT, FIRST, ID, PHASE, SECOND};
+use crate::by_reference::{COUNT, FIRST, ID, PHASE, SECOND, UNUSED};
 use crate::loans::{Loans, DONE};
 use gaffreel::volume::{ANSWER_LENGTH, LAYOUT_LENGTH, SECTOR_LENGTH, STATE_LENGTH};
 use random::{cases, Lent, Random};
@@ -53,7 +53,7 @@ fn good(random: &mut Random) -> Input {
         let bytes = section(&geometry, number as u64 + 1, &entries);
         put_section(&mut volume, &geometry, number, &bytes);
     }
-    let mut state = [0; 10];
+    let mut state = [0; 13];
     state[..PHASE].copy_from_slice(&layout_numbers(&layout));
     state[PHASE..].copy_from_slice(&[FILLING, 0, 0, 0, 3]);
     Input {
@@ -121,6 +121,7 @@ const UNSOUND: Fault = (1, |random, input| {
         (2, 9),
         (3, 0),
         (4, 65_537),
+        (UNUSED, 1),
         (PHASE, 4),
         (SECOND, 2),
         (COUNT, 1 << 32),

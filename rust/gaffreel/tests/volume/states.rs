@@ -4,7 +4,7 @@
 
 use crate::by_reference::{layout_numbers, put_numbers, StateNumbers};
 use crate::by_reference::{COMMITTING, FILLING, RECOVERING, WRITING_BACK};
-use crate::by_reference::{COUNT, FIRST, ID, PHASE, SECOND};
+use crate::by_reference::{COUNT, FIRST, ID, PHASE, SECOND, UNUSED};
 use crate::loans::{Loans, DONE};
 use gaffreel::volume::STATE_LENGTH;
 use random::{cases, Random, Reached};
@@ -18,6 +18,8 @@ const LENGTH_OR_STATE: u32 = 1;
 /// What makes a state one that is not sound.
 #[derive(Clone, Copy, Debug, PartialEq, Eq, PartialOrd, Ord)]
 enum Clause {
+    /// A number that has no meaning yet is not 0.
+    Unused,
     /// There is no such phase.
     Phase,
     /// A number of the place that the phase lacks is not 0.
@@ -47,7 +49,8 @@ enum Clause {
 }
 
 /// The clauses that write and flush test.
-const OF_STATES: [Clause; 11] = [
+const OF_STATES: [Clause; 12] = [
+    Clause::Unused,
     Clause::Phase,
     Clause::Place,
     Clause::Layout,
@@ -69,7 +72,7 @@ const CALLS: [&str; 6] = ["write", "flush", "step", "next_store", "advance", "re
 
 /// The clauses that a state breaks on a volume.
 fn broken(numbers: &StateNumbers, volume: &[u8]) -> Vec<Clause> {
-    let [reserved, log2_run, tag_size, sections, provided, phase, first, second, count, id] =
+    let [reserved, log2_run, tag_size, sections, provided, unused @ .., phase, first, second, count, id] =
         *numbers;
     let layout = Layout {
         reserved,
@@ -79,6 +82,7 @@ fn broken(numbers: &StateNumbers, volume: &[u8]) -> Vec<Clause> {
         provided,
     };
     let mut rows = vec![
+        (Clause::Unused, unused != [0; 3]),
         (Clause::Phase, phase > 3),
         (Clause::Place, phase == FILLING && first != 0),
         (
@@ -142,7 +146,7 @@ fn sound(random: &mut Random, layout: &Layout, volume: &[u8]) -> StateNumbers {
         }
         _ => [RECOVERING, random.number() % stores.max(1), 0, 0, id],
     };
-    let mut numbers = [0; 10];
+    let mut numbers = [0; 13];
     numbers[..PHASE].copy_from_slice(&layout_numbers(layout));
     numbers[PHASE..].copy_from_slice(&place);
     numbers
@@ -150,7 +154,7 @@ fn sound(random: &mut Random, layout: &Layout, volume: &[u8]) -> StateNumbers {
 
 /// Breaks a clause, or replaces a number by any.
 fn spoil(random: &mut Random, numbers: &mut StateNumbers, geometry: &Geometry) {
-    let (place, number) = match (random.number() % 16, numbers[PHASE]) {
+    let (place, number) = match (random.number() % 17, numbers[PHASE]) {
         (0, _) => (PHASE, random.pick(&[4, 5, 1 << 8, 1 << 32, u64::MAX])),
         (1, FILLING) => (FIRST, random.pick(&[1, 1 << 32, u64::MAX])),
         (1 | 2, WRITING_BACK) => (SECOND, random.pick(&[2, 3, 1 << 32, u64::MAX])),
@@ -173,6 +177,10 @@ fn spoil(random: &mut Random, numbers: &mut StateNumbers, geometry: &Geometry) {
         (12, COMMITTING) => (FIRST, geometry.section_sectors as u64 + random.number() % 3),
         (12, WRITING_BACK) => (FIRST, numbers[COUNT].saturating_add(random.number() % 3)),
         (12 | 13, RECOVERING) => (COUNT, random.pick(&[1, 80, u64::MAX])),
+        (13, _) => (
+            random.length(UNUSED..=PHASE - 1),
+            random.pick(&[1, 1 << 8, 1 << 63]),
+        ),
         _ => (random.length(FIRST..=ID), any_number(random)),
     };
     numbers[place] = number;
@@ -198,7 +206,7 @@ fn call(random: &mut Random, loans: &mut Loans, name: &'static str, broken: &[Cl
 
 /// An advance of no steps tests whether there is a state, and no more.
 fn no_steps(loans: &mut Loans, broken: &[Clause]) {
-    let none = [Clause::Phase, Clause::Place];
+    let none = [Clause::Unused, Clause::Phase, Clause::Place];
     let refused = broken.iter().any(|clause| none.contains(clause));
     let number = loans.advance(0);
     assert_eq!(number, if refused { LENGTH_OR_STATE } else { DONE });
