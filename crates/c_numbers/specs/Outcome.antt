@@ -6,9 +6,7 @@
 -- refusedWith n b           : the call was refused with the number n, and the buffer holds b as before
 -- answering a before after  : what a call leaves whose answer is a: where that is taken the buffer holds `after`, else `before`, which it held
 use Prim.Native.Nat.{ℕ}
-use mathlib.Core.Bool.{Bool, not}
 use mathlib.Core.List.{List}
-use lib.Dec.{eqb}
 use Rattle.octets.specs.Answer.{Answer, taken, refused}
 
 abbrev pub done : ℕ
