@@ -2,7 +2,7 @@
 use Prim.Native.Nat.{ℕ, zero, suc, _+_, _*_, _≤_, _<_}
 use mathlib.Core.Bool.{Bool, true, false, not, _&&_}
 use mathlib.Core.List.{List, [], _∷_, _++_}
-use mathlib.Core.Path.{_≡_, refl, sym, ap, _∙_}
+use mathlib.Core.Path.{_≡_, refl, sym, ap, _∙_, subst}
 use native.Mathlib.Omega.{arith}
 use lib.Dec.{ltb}
 use lib.ListN.{length, replicate, length-replicate}
@@ -22,7 +22,9 @@ use Rattle.model.specs.Query.{queryOf}
 use Rattle.model.specs.Read.{ReadResult, readOf}
 use Rattle.model.specs.Advance.{advanceFrom}
 use Rattle.model.specs.Medium.{mediumOf}
-use Rattle.model.specs.World.{anOpen, byOpen, after}
+use Rattle.model.specs.Ledger.{Ledger}
+use Rattle.model.specs.World.{World, anOpen, byOpen, after}
+use Rattle.model.specs.Demand3.{worldAfter, ledgerAfter, Agrees}
 use Rattle.model.specs.Guarantees.{OpensFresh}
 use Rattle.model.proofs.Demand3.{demand3-sha256, formatted-length, fresh-opens}
 use Rattle.volume_check.specs.Check.{recoverFrom, recoverOf, isBad, countOf}
@@ -69,9 +71,12 @@ module _ (g : Layout) (v : List ℕ) (e : formatOf tagOf g v .answer ≡ passed)
   found : (n : ℕ) → n < g .provided → isTaken (readOf tagOf s₀ v₀ empty n (replicate 512 0) .answer) ≡ true
   unfolding after
   found n l =
-      ap (λ (o : ReadResult). isTaken (o .answer))
-      (demand3-sha256 g v e (anOpen st ∷ []) (ap (λ (o : OpenResult). byOpen (mediumOf v₀) (o .staging) (o .answer) .world .settled) opens)
-      .reads s₀ empty (replicate 512 0) n (ap (λ (o : OpenResult). byOpen (mediumOf v₀) (o .staging) (o .answer) .world .live) opens) (length-replicate {A = ℕ} 512 0) l)
+      let w : World = byOpen (mediumOf v₀) empty (taken (s₀, 0)) .world in
+      let told : Ledger = ledgerAfter tagOf g v (anOpen st ∷ []) in
+      let opened : worldAfter tagOf g v (anOpen st ∷ []) ≡ w = ap (λ (o : OpenResult). byOpen (mediumOf v₀) (o .staging) (o .answer) .world) opens in
+      let agrees : Agrees tagOf g v₀ w told =
+      subst (λ (x : World). Agrees tagOf g v₀ x told) opened (demand3-sha256 g v e (anOpen st ∷ []) (ap (λ (x : World). x .settled) opened)) in
+      ap (λ (o : ReadResult). isTaken (o .answer)) (agrees .reads s₀ empty (replicate 512 0) n refl (length-replicate {A = ℕ} 512 0) l)
 
   good : (n : ℕ) → n < g .provided → isBad s₀ v₀ empty n ≡ false
   unfolding isBad
