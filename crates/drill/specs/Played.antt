@@ -4,7 +4,7 @@
 -- setting r               : the tags of R14, and r reserved sectors
 -- liveOf x st             : what is live, with the staging loan st
 -- worldOf m v st          : the world with the volume v
--- filled e st             : the staging loan st as the call of e finds it: an open fills the first bytes, those that it is lent
+-- loanFor e st             : the staging loan st as the call of e finds it: an open fills the first bytes, those that it is lent
 -- stagingIn x st          : the staging loan after an event that found it as st and left x live
 -- stagingNext r v x st e  : the staging loan st after the event e, on the volume v with x live
 -- stagingAfter r w st es  : the same after the events es, from the world w
@@ -45,14 +45,14 @@ worldOf m v st = record { medium = mediumOf v; live = liveOf (m .live) st; settl
 
 -- ---- the staging loan
 
-abbrev pub filled : Event → List ℕ → List ℕ
-filled aCut st = st
-filled (anOpen staging) st = patch st 0 staging
-filled (aWrite n b) st = st
-filled aFlush st = st
-filled aStep st = st
-filled (aNextStore b) st = st
-filled (aRead n loan) st = st
+abbrev pub loanFor : Event → List ℕ → List ℕ
+loanFor aCut st = st
+loanFor (anOpen staging) st = patch st 0 staging
+loanFor (aWrite n b) st = st
+loanFor aFlush st = st
+loanFor aStep st = st
+loanFor (aNextStore b) st = st
+loanFor (aRead n loan) st = st
 
 -- the staging of a live state is the whole loan; a refused open and a cut leave the bytes as they are
 abbrev pub stagingIn : Live → List ℕ → List ℕ
@@ -60,7 +60,7 @@ stagingIn off st = st
 stagingIn (on s staging) st = staging
 
 abbrev pub stagingNext : ℕ → List ℕ → Live → List ℕ → Event → List ℕ
-stagingNext r v x st e = stagingIn (happens (setting r) (mediumOf v) x e .world .live) (filled e st)
+stagingNext r v x st e = stagingIn (happens (setting r) (mediumOf v) x e .world .live) (loanFor e st)
 
 unfoldable pub stagingAfter : ℕ → World → List ℕ → List Event → List ℕ
 stagingAfter r w st [] = st

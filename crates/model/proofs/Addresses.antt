@@ -75,6 +75,13 @@ ranged g e₀ =
       p-high = leb-true (g .provided) mostProvided (p .1);
     }
 
+-- sections follow one another
+pub section-order : (g : Layout) (k k′ : ℕ) → k < k′ → sectionAt g k + sectionSize (g .width) ≤ sectionAt g k′
+section-order g k k′ l =
+    let h : suc k * sectionSize (g .width) ≤ k′ * sectionSize (g .width) = mul-le-mul-right (sectionSize (g .width)) l in
+    let e : suc k * sectionSize (g .width) ≡ k * sectionSize (g .width) + sectionSize (g .width) = suc-mul k (sectionSize (g .width)) in
+    omega arith
+
 module _ (g : Layout) (R : Ranged g) where
   run-pos : 0 < runLength g
   run-pos = pow-pos (g .shift)
@@ -241,14 +248,8 @@ module _ (g : Layout) (R : Ranged g) where
       let a = tag-in-area s in
       omega (arith, R .t .some)
 
-  section-order : (k k′ : ℕ) → k < k′ → sectionAt g k + sectionSize (g .width) ≤ sectionAt g k′
-  section-order k k′ l =
-      let h : suc k * sectionSize (g .width) ≤ k′ * sectionSize (g .width) = mul-le-mul-right (sectionSize (g .width)) l in
-      let e : suc k * sectionSize (g .width) ≡ k * sectionSize (g .width) + sectionSize (g .width) = suc-mul k (sectionSize (g .width)) in
-      omega arith
-
   pub section-low : (k : ℕ) → k < g .sections → sectionAt g k + sectionSize (g .width) ≤ base g
-  section-low k l = section-order k (g .sections) l
+  section-low k l = section-order g k (g .sections) l
 
   pub base-room : base g ≤ needed g
   base-room = omega (arith, data-high (g .provided - 1))
@@ -258,6 +259,6 @@ module _ (g : Layout) (R : Ranged g) where
   section-apart k k′ n = go (decLt k k′) (decLt k′ k)
     where
       go : Dec (k < k′) → Dec (k′ < k) → Apart (sectionAt g k * 512) (sectionSize (g .width) * 512) (sectionAt g k′ * 512) (sectionSize (g .width) * 512)
-      go (yes l) d = before (omega (arith, section-order k k′ l))
-      go (no h) (yes l) = behind (omega (arith, section-order k′ k l))
+      go (yes l) d = before (omega (arith, section-order g k k′ l))
+      go (no h) (yes l) = behind (omega (arith, section-order g k′ k l))
       go (no h) (no l) = absurd (n (omega arith))

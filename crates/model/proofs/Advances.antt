@@ -12,7 +12,7 @@ use Rattle.model.specs.Section.{Entry}
 use Rattle.model.specs.Store.{storeOf, RecoveryStep, storing, afterEffect, recoveryStepAt}
 use Rattle.model.specs.State.{Verdict, passed}
 use Rattle.model.specs.Step.{stepRows, phaseStep, stepBy, stepOf}
-use Rattle.model.specs.JournalStep.{commitStep, homeStep, recoverBy}
+use Rattle.model.specs.JournalStep.{commitStep, homeStep, recoverAt}
 use Rattle.model.specs.StepResult.{stepAcknowledges, StepResult}
 use Rattle.model.specs.Advance.{AdvanceResult, doneIn, stepMade, oneMore, advanceFrom}
 use Rattle.model.specs.declared.Phase.{Phase}
@@ -42,7 +42,7 @@ module _ (s : State) (v st : List ℕ) where
   unfolding commitStep
   commit-quiet j = pick-quiet (ltb (j + 1) (sectionSize (s .layout .width))) _ _ (λ q. absurd (omega (arith, q))) (λ q. absurd (omega (arith, q)))
 
-  place-quiet : (k : ℕ) (x : RecoveryStep) → Quiet (recoverBy s v st k x)
+  place-quiet : (k : ℕ) (x : RecoveryStep) → Quiet (recoverAt s v st k x)
   place-quiet k (storing (storeOf x h)) = home-quiet (x .entry) h _ _ _
 
   phase-quiet : (p : Phase) → Quiet (phaseStep s v st p)

@@ -2,7 +2,7 @@
 use Prim.Native.Nat.{ℕ, _+_, _-_, _*_, _/_, _%_, _^_, _≤_, _<_}
 use mathlib.Core.Bool.{Bool, true, false, not, _&&_}
 use mathlib.Core.Path.{_≡_, refl, sym, ap, _∙_, subst}
-use mathlib.Core.Logic.{_≢_, ⊎-elim}
+use mathlib.Core.Logic.{_≢_, _⊎_, inr, ⊎-elim}
 use mathlib.Core.List.{List}
 use native.Mathlib.Omega.{arith}
 use native.Mathlib.Decide.{decLe, decLt}
@@ -11,10 +11,10 @@ use lib.ListN.{getD}
 use Rattle.octets.specs.Choice.{pick}
 use Rattle.octets.specs.Parts.{part, same}
 use Rattle.octets.specs.Sectors.{sectorAt}
-use Rattle.octets.proofs.Parts.{part-part, same-true, eq-same}
+use Rattle.octets.proofs.Parts.{same-true, eq-same}
 use Rattle.octets.proofs.Sectors.{sector-part}
 use Rattle.model.specs.Geometry.{Apart, before, behind}
-use Rattle.model.specs.Layout.{sectionSize, sectionAt, base, dataAt, tagSector, tagOffset}
+use Rattle.model.specs.Layout.{sectionSize, sectionAt, base, dataAt, tagByte}
 use Rattle.model.specs.Section.{idOf}
 use Rattle.octets.specs.Lists.{allBelow}
 use Rattle.model.specs.Journal.{sealed, sectionOf, greatestId, replay}
@@ -25,8 +25,8 @@ use Rattle.model.specs.World.{Live}
 use Rattle.model.specs.declared.Phase.the-variants.{Committing}
 use Rattle.model.proofs.Replays.{mentions, Clean, Pass, Which, isTrue, isFalse, which}
 use Rattle.model.proofs.Journals.{top-section, id-sealed, top-ge, writes, batchOf, below-all}
-use Rattle.model.proofs.Addresses.{tag-sector, tag-inside, data-high, tag-high, section-apart, section-low}
-use Rattle.model.proofs.Volumes.{sectors-ext, volume-ext, getD-sector}
+use Rattle.model.proofs.Addresses.{tag-sector, data-high, tag-high, section-apart, section-low}
+use Rattle.model.proofs.Volumes.{part-bytes, sectors-ext, volume-ext, getD-sector}
 use Rattle.model.specs.Guarantees.{Outside}
 use Rattle.model.proofs.Homes.{Home}
 use Rattle.model.proofs.Invariant.{Premises, Disk, Staged, slot, Landed, new, old, Torn, AtCommit, Lives, stopped, working, inFilling, inCommitting, inWritingBack, inRecovering}
@@ -46,12 +46,6 @@ not-true true e = sym e
 not-true false e = refl
 
 module _ (tag : Tag) (g : Layout) (v₀ : List ℕ) (X : Premises tag g v₀) where
-  -- a tag lies in one sector
-  tag-in : (y : List ℕ) (s : ℕ) → tagAt g y s ≡ part (sectorAt y (tagSector g s)) (tagOffset g s) (g .width)
-  tag-in y s =
-      ap (λ (k : ℕ). part y k (g .width)) (sym (tag-sector g (X .ranged) s))
-      ∙ sym (part-part y (tagSector g s * 512) 512 (tagOffset g s) (g .width) (tag-inside g (X .ranged) s))
-
   -- ---- sectors of one section
 
   module _ (u : List ℕ) (c : Contents) (D : Disk tag g v₀ u c) (C : Clean (g .provided) (Home g tag u) c)
@@ -66,8 +60,19 @@ module _ (tag : Tag) (g : Layout) (v₀ : List ℕ) (X : Premises tag g v₀) wh
     abbrev landed : ℕ → Bool
     landed i = same (sectorAt w (slot tag g v₀ m + i)) (sealed g st m i)
 
+    -- a byte outside the journal is as it was
+    t-byte : (b : ℕ) → (b < sectionAt g 0 * 512) ⊎ (base g * 512 ≤ b) → getD w b 0 ≡ getD u b 0
+    t-byte b o =
+        sym (getD-sector w b)
+        ∙ ap (λ (x : List ℕ). getD x (b % 512) 0) (T .other (b / 512) (λ i h. ⊎-elim (λ q. omega arith) (λ q. omega (arith, kb)) o))
+        ∙ getD-sector u b
+
     t-outside : (b : ℕ) → Outside g b → getD w b 0 ≡ getD u b 0
-    t-outside b o = sym (getD-sector w b) ∙ ap (λ (x : List ℕ). getD x (b % 512) 0) (T .other (b / 512) (λ i h. ⊎-elim (λ q. omega arith) (λ q. omega (arith, kb)) (o .journal))) ∙ getD-sector u b
+    t-outside b o = t-byte b (o .journal)
+
+    -- and so is everything behind it
+    t-behind : (b n : ℕ) → base g * 512 ≤ b → part w b n ≡ part u b n
+    t-behind b n l = part-bytes w u b n (T .long) (λ i h. t-byte (b + i) (inr (omega arith)))
 
     t-same : (i : ℕ) → i ≢ k → sectionOf g w i ≡ sectionOf g u i
     t-same i q = sectors-ext w u (sectionAt g i) (sectionSize (g .width)) (λ a l. T .other (sectionAt g i + a) (λ b h. go a b l h (section-apart g (X .ranged) i k q)))
@@ -80,9 +85,8 @@ module _ (tag : Tag) (g : Layout) (v₀ : List ℕ) (X : Premises tag g v₀) wh
 
     t-homes : (s : ℕ) (d : List ℕ) → Home g tag u s d → Home g tag w s d
     t-homes s d p = (
-      T .other (dataAt g s) (λ i h. omega (arith, kb, data-high g (X .ranged) s)) ∙ p .0,
-      tag-in w s ∙ ap (λ (x : List ℕ). part x (tagOffset g s) (g .width)) (T .other (tagSector g s) (λ i h. omega (arith, kb, tag-high g (X .ranged) s)))
-          ∙ sym (tag-in u s) ∙ p .1,
+      t-behind (dataAt g s * 512) 512 (omega (arith, data-high g (X .ranged) s)) ∙ p .0,
+      t-behind (tagByte g s) (g .width) (omega (arith, tag-high g (X .ranged) s, tag-sector g (X .ranged) s)) ∙ p .1,
     )
 
     fresh : (i : ℕ) → landed i ≡ true → sectorAt w (slot tag g v₀ m + i) ≡ sealed g st m i

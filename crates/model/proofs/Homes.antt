@@ -1,5 +1,5 @@
 -- What each kind of store leaves: homes, the journal, and what lies before it.
-use Prim.Native.Nat.{ℕ, zero, suc, _+_, _*_, _≤_, _<_}
+use Prim.Native.Nat.{ℕ, zero, suc, _+_, _-_, _*_, _≤_, _<_}
 use mathlib.Core.Path.{_≡_, sym, ap, _∙_}
 use mathlib.Core.Logic.{_≢_}
 use mathlib.Core.List.{List}
@@ -17,6 +17,7 @@ use Rattle.model.specs.Journal.{sectionOf}
 use Rattle.model.specs.Tag.{Tag, tagAt}
 use Rattle.model.specs.Store.{homeCount, homeStore, made}
 use Rattle.model.proofs.Plans.{home-two}
+use Rattle.model.proofs.Journals.{front}
 use Rattle.model.proofs.Replays.{Holds, Frame}
 use Rattle.model.proofs.Addresses.{part-apart, Ranged, data-tag, data-data, tag-tag, tag-sector, tag-inside, data-high, tag-high, data-room, tag-room, section-apart, section-low, base-room}
 use Rattle.model.specs.declared.Layout.{Layout}
@@ -91,8 +92,8 @@ module _ (g : Layout) (R : Ranged g) (tag : Tag) (v : List ℕ) (room : needed g
         ∙ part-patch-same v (tagByte g (e .sector)) (e .tag) tag-fits (g .width) (sym sized) ∙ t,
   )
 
-  pub home-sections : (h : ℕ) → h < homeCount g e → (k : ℕ) → k < g .sections → sectionOf g (made v (homeStore g v e h)) k ≡ sectionOf g v k
-  home-sections h l k m = home-low h l (sectionAt g k * 512) (sectionSize (g .width) * 512) (omega (arith, section-low g R k m))
+  pub home-front : (h : ℕ) → h < homeCount g e → front g (made v (homeStore g v e h)) ≡ front g v
+  home-front h l = home-low h l (g .reserved * 512) ((base g - g .reserved) * 512) (omega arith)
 
 module _ (g : Layout) (R : Ranged g) (tag : Tag) (v : List ℕ) (room : needed g * 512 ≤ length v)
     (k : ℕ) (kl : k < g .sections) (j : ℕ) (jl : j < sectionSize (g .width)) (c : List ℕ) (whole : length c ≡ 512) where

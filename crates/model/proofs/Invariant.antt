@@ -20,11 +20,11 @@ use Rattle.model.specs.Ledger.{Write, Contents, Ledger}
 use Rattle.model.specs.Medium.{Medium, volumeIn}
 use Rattle.model.specs.World.{Live, off, on}
 use Rattle.model.proofs.Replays.{mentions, Clean, Durable, Pass, Midway, touch, noWrite, pass-begins, mid-touch, mid-ends, Frame}
-use Rattle.model.proofs.Journals.{every-replay, Every, writes, writeOfEntry, batchOf, top-kept, ids-kept, replay-kept}
+use Rattle.model.proofs.Journals.{every-replay, Every, writes, writeOfEntry, batchOf, front, sections-kept, top-kept, ids-kept, replay-kept}
 use Rattle.model.proofs.Addresses.{Ranged, data-high, tag-high, tag-sector}
 use Rattle.model.proofs.Volumes.{part-bytes}
 use Rattle.model.specs.Guarantees.{Outside}
-use Rattle.model.proofs.Homes.{Home, home-length, home-outside, home-frame, home-data, home-done, home-sections}
+use Rattle.model.proofs.Homes.{Home, home-length, home-outside, home-frame, home-data, home-done, home-front}
 use Rattle.model.specs.declared.Layout.{Layout}
 use Rattle.model.specs.declared.Phase.{Phase}
 use Rattle.model.specs.declared.Phase.the-variants.{Filling, Committing, WritingBack, Recovering}
@@ -176,24 +176,24 @@ module _ (tag : Tag) (g : Layout) (v₀ : List ℕ) (X : Premises tag g v₀) (v
   tagged : length (e .tag) ≡ g .width
   tagged = rw (G .fit) ((X .tags) (e .sector) (e .bytes))
 
-  pub secs : (h : ℕ) → h < homeCount g e → (k : ℕ) → k < g .sections → sectionOf g (w h) k ≡ sectionOf g v k
-  secs h l = home-sections g (X .ranged) tag v room e (G .low) (G .whole) tagged h l
+  fronts : (h : ℕ) → h < homeCount g e → front g (w h) ≡ front g v
+  fronts h l = home-front g (X .ranged) tag v room e (G .low) (G .whole) tagged h l
 
   pub replays : (h : ℕ) → h < homeCount g e → replay g (w h) ≡ replay g v
-  replays h l = replay-kept g (w h) v (secs h l)
+  replays h l = replay-kept g (w h) v (fronts h l)
 
   pub tops : (h : ℕ) → h < homeCount g e → greatestId g (w h) ≡ greatestId g v
-  tops h l = top-kept g (w h) v (secs h l)
+  tops h l = top-kept g (w h) v (fronts h l)
 
   pub disk-home : (h : ℕ) → h < homeCount g e → mentions (writes (replay g v)) (e .sector) ≡ true → Disk tag g v₀ (w h) c
   disk-home h l m =
       record {
         sized = home-length g (X .ranged) tag v room e (G .low) (G .whole) tagged h l ∙ D .sized;
         kept = λ b o. home-outside g (X .ranged) tag v room e (G .low) (G .whole) tagged h l b o ∙ D .kept b o;
-        places = λ k q. rw (ids-kept g (w h) v (secs h l) k q) (D .places k q);
-        window = λ k q. rw (ids-kept g (w h) v (secs h l) k q, tops h l) (D .window k q);
+        places = λ k q. rw (ids-kept g (w h) v (fronts h l) k q) (D .places k q);
+        window = λ k q. rw (ids-kept g (w h) v (fronts h l) k q, tops h l) (D .window k q);
         top = rw (tops h l) (D .top);
-        goods = λ k q. rw (secs h l k q) (D .goods k q);
+        goods = λ k q. rw (sections-kept g (w h) v (fronts h l) k q) (D .goods k q);
         durable = rw (replays h l) (touch (g .provided) (e .sector) (home-frame g (X .ranged) tag v room e (G .low) (G .whole) tagged h l) m (D .durable));
       }
 

@@ -1,5 +1,5 @@
 -- What a volume's journal says, when one sector of it or none is stored.
-use Prim.Native.Nat.{ℕ, zero, suc, _*_, _^_, _≤_, _<_, max}
+use Prim.Native.Nat.{ℕ, zero, suc, _+_, _-_, _*_, _^_, _≤_, _<_, max}
 use mathlib.Core.Bool.{Bool, true, false}
 use mathlib.Core.Path.{_≡_, refl, sym, ap, _∙_, subst}
 use mathlib.Core.Logic.{_≢_}
@@ -10,15 +10,16 @@ use lib.ListN.{length, getD}
 use lib.Dec.{ltb, eqb}
 use borrow.Author.Tests.{eqb-true, eqb-false, eq-eqb, ne-eqb}
 use Rattle.octets.specs.Choice.{pick}
-use Rattle.octets.proofs.Parts.{length-part}
+use Rattle.octets.specs.Parts.{part}
+use Rattle.octets.proofs.Parts.{length-part, part-part}
 use Rattle.octets.specs.Sectors.{sectorAt}
-use Rattle.model.specs.Layout.{perSector, entryCount, sectionSize}
+use Rattle.model.specs.Layout.{perSector, entryCount, sectionSize, sectionAt, base}
 use Rattle.model.specs.Section.{Entry, unused, idOf, entryOf, wholeId, greatestIn}
 use Rattle.octets.specs.Lists.{allBelow, greatest, collect}
 use Rattle.model.specs.Journal.{sealed, sectionOf, greatestId, dueIds, Found, insert, ordered, wholeIds, Replayed, usedEntry, usedOf, replayIn, replay}
 use Rattle.model.specs.Ledger.{Write}
 use Rattle.model.proofs.Sections.{length-withId, id-withId, entry-stamped}
-use Rattle.model.proofs.Addresses.{and-both}
+use Rattle.model.proofs.Addresses.{and-both, section-order}
 use Rattle.model.proofs.Replays.{Which, isTrue, isFalse, which}
 use Rattle.model.proofs.Order.{ordered-cong, ordered-comes, ordered-goes}
 use Rattle.model.specs.declared.Layout.{Layout}
@@ -152,19 +153,38 @@ pub due-same : (g : Layout) (v w : List ℕ) (k : ℕ) → sectionOf g v k ≡ s
 unfolding dueIds
 due-same g v w k e = ap (wholeId (g .width)) e
 
-module _ (g : Layout) (v w : List ℕ) (same : (k : ℕ) → k < g .sections → sectionOf g v k ≡ sectionOf g w k) where
+-- superblock and journal: what lies between the reserved sectors and the runs
+abbrev pub front : Layout → List ℕ → List ℕ
+front g v = part v (g .reserved * 512) ((base g - g .reserved) * 512)
+
+front-section : (g : Layout) (v : List ℕ) (k : ℕ) → k < g .sections
+    → part (front g v) ((sectionAt g k - g .reserved) * 512) (sectionSize (g .width) * 512) ≡ sectionOf g v k
+front-section g v k l =
+    let at : g .reserved * 512 + (sectionAt g k - g .reserved) * 512 ≡ sectionAt g k * 512 = omega arith in
+    part-part v (g .reserved * 512) ((base g - g .reserved) * 512) ((sectionAt g k - g .reserved) * 512) (sectionSize (g .width) * 512)
+    (omega (arith, section-order g k (g .sections) l))
+    ∙ ap (λ (a : ℕ). part v a (sectionSize (g .width) * 512)) at
+
+-- a volume with the same front has the same journal
+module _ (g : Layout) (v w : List ℕ) (same : front g v ≡ front g w) where
+  pub sections-kept : (k : ℕ) → k < g .sections → sectionOf g v k ≡ sectionOf g w k
+  sections-kept k l =
+      sym (front-section g v k l)
+      ∙ ap (λ (x : List ℕ). part x ((sectionAt g k - g .reserved) * 512) (sectionSize (g .width) * 512)) same
+      ∙ front-section g w k l
+
   pub top-kept : greatestId g v ≡ greatestId g w
   unfolding greatestId
-  top-kept = greatest-cong (g .sections) _ _ (λ k l. ap (greatestIn (g .width)) (same k l))
+  top-kept = greatest-cong (g .sections) _ _ (λ k l. ap (greatestIn (g .width)) (sections-kept k l))
 
   pub ids-kept : (k : ℕ) → k < g .sections → wholeIds g v k ≡ wholeIds g w k
-  ids-kept k l = ap (wholeId (g .width)) (same k l)
+  ids-kept k l = ap (wholeId (g .width)) (sections-kept k l)
 
   pub replay-kept : replay g v ≡ replay g w
   unfolding replay
   replay-kept =
-      replayIn-cong g v w (g .sections) (ordered (g .sections) (dueIds g v)) (placed (g .sections) (dueIds g v)) same
-      ∙ ap (replayIn g w) (ordered-cong (g .sections) (dueIds g v) (dueIds g w) (λ k l. due-same g v w k (same k l)))
+      replayIn-cong g v w (g .sections) (ordered (g .sections) (dueIds g v)) (placed (g .sections) (dueIds g v)) sections-kept
+      ∙ ap (replayIn g w) (ordered-cong (g .sections) (dueIds g v) (dueIds g w) (λ k l. due-same g v w k (sections-kept k l)))
 
 -- ---- the writes of entries
 

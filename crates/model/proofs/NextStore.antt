@@ -22,7 +22,7 @@ use Rattle.model.specs.Journal.{sectionFor, replay}
 use Rattle.model.specs.Store.{afterEffect, contentOf, homeStore, storeOf, RecoveryStep, storing, recoveryStepAt}
 use Rattle.model.specs.State.{passed, stateOk, volumeOk, stagingOk, sectorOk}
 use Rattle.model.specs.Step.{recoveryRow, rangeRows, phaseStep, stepBy, stepOf}
-use Rattle.model.specs.JournalStep.{stagedEntry, commitStore, commitStep, homeStep, recoverBy}
+use Rattle.model.specs.JournalStep.{stagedEntry, commitStore, commitStep, homeStep, recoverAt}
 use Rattle.model.specs.StepResult.{StepResult}
 use Rattle.model.specs.NextStore.{nextStoreOf, storeNamed, Placed, Within, sectorNamed, sectorStored, StepStores}
 use Rattle.model.proofs.Addresses.{and-both, Ranged, ranged, data-high, tag-high, data-room, tag-room, tag-inside, section-low, base-room}
@@ -124,7 +124,7 @@ module _ (s : State) (v st : List ℕ) where
     recovering k q (storing (storeOf x h)) e c =
         by-row (leb (g .provided) (x .entry .sector)) (refusal 6 (x .section ∷ x .index ∷ []))
         (λ n. at-phase (Recovering k) q
-        (subst (λ (y : RecoveryStep). Stores (recoverBy s v st k y)) (sym e)
+        (subst (λ (y : RecoveryStep). Stores (recoverAt s v st k y)) (sym e)
         (bringing (x .entry) (leb-false (g .provided) (x .entry .sector) n) (c .0 .whole) (c .0 .sized) h _ _ _)))
 
     by-phase : (p : Phase) → s .phase ≡ p → Stores (stepBy s v st (firstMet (rangeRows s v st p) passed))

@@ -15,7 +15,7 @@ use Rattle.model.specs.declared.Layout.{Layout}
 use Rattle.model.specs.declared.Phase.{Phase}
 use Rattle.model.specs.declared.Phase.the-variants.{Filling, Committing, WritingBack, Recovering}
 use Rattle.model.specs.declared.State.{State}
-use Rattle.model.specs.Layout.{mostSectors, sectionSize, sectionAt, dataAt, tagByte, tagSector, tagOffset}
+use Rattle.model.specs.Layout.{mostSectors, sectionSize, sectionAt, base, dataAt, tagByte, tagSector, tagOffset}
 use Rattle.model.specs.Superblock.{superblockAt, layoutIn}
 use Rattle.model.specs.Section.{Entry, wholeId}
 use Rattle.octets.specs.Lists.{allBelow, firstBelow}
@@ -27,11 +27,11 @@ use Rattle.model.specs.Format.{formatRows, formatBy, formatOf}
 use Rattle.model.specs.Open.{misplaced, openRows, superblockRows, entriesVerdict, openBy, openWith, openOf}
 use Rattle.model.specs.Query.{queryWith, queryOf}
 use Rattle.model.specs.Step.{rangeRows, stepRows, phaseStep, stepBy, stepOf}
-use Rattle.model.specs.JournalStep.{commitStep, homeStep, recoverBy}
+use Rattle.model.specs.JournalStep.{commitStep, homeStep, recoverAt}
 use Rattle.model.specs.Read.{readRows, readBy, readOf}
 use Rattle.model.specs.NextStore.{nextStoreOf}
 use Rattle.model.specs.Reserved.{AgreeFrom, ReservedUnread}
-use Rattle.model.proofs.Journals.{top-kept, replay-kept}
+use Rattle.model.proofs.Journals.{front, top-kept, replay-kept}
 
 module _ (r : ℕ) (v w : List ℕ) (agree : AgreeFrom r v w) where
   -- ---- what is read
@@ -58,14 +58,17 @@ module _ (r : ℕ) (v w : List ℕ) (agree : AgreeFrom r v w) where
     section-same : (k : ℕ) → sectionOf g v k ≡ sectionOf g w k
     section-same k = part-same (sectionAt g k * 512) (sectionSize (g .width) * 512) (omega (arith, from))
 
+    front-same : front g v ≡ front g w
+    front-same = part-same (g .reserved * 512) ((base g - g .reserved) * 512) (omega (arith, from))
+
     ids-same : (k : ℕ) → wholeIds g v k ≡ wholeIds g w k
     ids-same k = ap (wholeId (g .width)) (section-same k)
 
     top-same : greatestId g v ≡ greatestId g w
-    top-same = top-kept g v w (λ k l. section-same k)
+    top-same = top-kept g v w front-same
 
     replay-same : replay g v ≡ replay g w
-    replay-same = replay-kept g v w (λ k l. section-same k)
+    replay-same = replay-kept g v w front-same
 
     misplaced-same : misplaced g v ≡ misplaced g w
     misplaced-same = λ i k. not (eqb (ids-same k i) 0) && not (eqb (sectionFor g (ids-same k i)) k)
@@ -153,7 +156,7 @@ module _ (r : ℕ) (v w : List ℕ) (agree : AgreeFrom r v w) where
     unfolding homeStep
     home-step e k last p left = rw (home-same h from e k)
 
-    recover-same : (k : ℕ) (x : RecoveryStep) → recoverBy s v st k x ≡ recoverBy s w st k x
+    recover-same : (k : ℕ) (x : RecoveryStep) → recoverAt s v st k x ≡ recoverAt s w st k x
     recover-same k (storing (storeOf x i)) = rw (replay-same h from) (home-step (x .entry) i _ _ st)
 
     phase-same : (p : Phase) → phaseStep s v st p ≡ phaseStep s w st p

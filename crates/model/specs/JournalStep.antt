@@ -49,9 +49,9 @@ module _ (s : State) (v st : List ℕ) where
       (pick (eqb (h + 1) (homeCount (s .layout) (stagedEntry s st i))) (WritingBack (i + 1) 0) (WritingBack i (h + 1)))
       (emptySection (s .layout .width))
 
-  abbrev pub recoverBy : ℕ → RecoveryStep → StepResult
-  recoverBy k (storing (storeOf x h)) =
+  abbrev pub recoverAt : ℕ → RecoveryStep → StepResult
+  recoverAt k (storing (storeOf x h)) =
       homeStep (x .entry) h (eqb (k + 1) (stepsOf (s .layout) (replay (s .layout) v))) (Recovering (k + 1)) st
 
   abbrev pub recoverStep : ℕ → StepResult
-  recoverStep k = recoverBy k (recoveryStepAt (s .layout) v k)
+  recoverStep k = recoverAt k (recoveryStepAt (s .layout) v k)

@@ -31,7 +31,8 @@ use Rattle.model.specs.Advance.{AdvanceResult, doneIn, oneMore, advanceFrom}
 use Rattle.model.proofs.Addresses.{ranged}
 use Rattle.model.proofs.Advances.{all-same, advance-more}
 use Rattle.model.proofs.Sections.{bytes-length, tag-length}
-use Rattle.model.proofs.Homes.{home-length, home-sections}
+use Rattle.model.proofs.Homes.{home-length, home-front}
+use Rattle.model.proofs.Journals.{front}
 use Rattle.section.specs.declared.Location.{Location}
 use Rattle.section.specs.Locations.{Locates}
 use Rattle.journal.specs.Replay.{idsOf, entryStoreAt, locationAt}
@@ -102,7 +103,7 @@ module _ (last next : Advanced) (x : Stepped) (e : next ≡ stepAdded last x) (v
 
 -- ---- a store of a recovery
 
--- the store that x names leaves the volume's length and its sections as they were
+-- the store that x names leaves the volume's length and its front as they were
 module _ (g : Layout) (ok : layoutOk g ≡ true) (v : List ℕ) (room : needed g * 512 ≤ length v) (x : Location) (l : x .section < g .sections) (h : x .entry < entryCount (g .width))
     (half : x .store < homeCount g (entryOf (g .width) (sectionOf g v (x .section)) (x .entry))) where
   abbrev entry : Entry
@@ -121,9 +122,8 @@ module _ (g : Layout) (ok : layoutOk g ≡ true) (v : List ℕ) (room : needed g
     length-same : length v ≡ length v′
     length-same = sym (ap length home ∙ home-length g (ranged g ok) (tagOf (g .width)) v room entry low whole sized (x .store) half)
 
-    sections-same : (j : ℕ) → j < g .sections → sectionOf g v j ≡ sectionOf g v′ j
-    sections-same j q =
-        sym (ap (λ (w : List ℕ). sectionOf g w j) home ∙ home-sections g (ranged g ok) (tagOf (g .width)) v room entry low whole sized (x .store) half j q)
+    front-same : front g v ≡ front g v′
+    front-same = sym (ap (front g) home ∙ home-front g (ranged g ok) (tagOf (g .width)) v room entry low whole sized (x .store) half)
 
 -- ---- a recovery
 
@@ -265,8 +265,8 @@ module _ {b : Advanced} {v₀ : List ℕ} {k : ℕ} {ids : List ℕ} {i at : ℕ
         sized-same : length v ≡ length v′
         sized-same = length-same g ok v (ok-here .1) x l (there .1 .entry) (there .1 .store) below-here v′ (home .1)
 
-        same : (j : ℕ) → j < g .sections → sectionOf g v j ≡ sectionOf g v′ j
-        same = sections-same g ok v (ok-here .1) x l (there .1 .entry) (there .1 .store) below-here v′ (home .1)
+        same : front g v ≡ front g v′
+        same = front-same g ok v (ok-here .1) x l (there .1 .entry) (there .1 .store) below-here v′ (home .1)
 
         module _ (y : Location) (ey : (n : ℕ) → x ≡ locationAt g v n → y ≡ locationAt g v (n + 1)) where
           next-is : y ≡ locationAt g v′ (k + suc i)

@@ -29,14 +29,14 @@ use Rattle.model.specs.Tag.{Tag, Tags, tagOf, tagAt}
 use Rattle.model.specs.State.{Verdict, passed, placeOk, replayOk, volumeLoanOk, stateOk, volumeOk, stagingOk, isFilling}
 use Rattle.model.specs.Open.{openRows, entriesVerdict, phaseFor, openedState, OpenResult, openBy, openWith, openOf}
 use Rattle.model.specs.Step.{recoveryRow, stepBy, stepOf}
-use Rattle.model.specs.JournalStep.{homeStep, recoverBy}
+use Rattle.model.specs.JournalStep.{homeStep, recoverAt}
 use Rattle.model.specs.StepResult.{StepResult}
 use Rattle.model.specs.Read.{ReadResult, readBy, readOf}
 use Rattle.model.specs.Advance.{AdvanceResult, noStep, stepMade, oneMore, advanceFrom, advanceOf}
 use Rattle.model.proofs.Addresses.{Ranged, ranged}
-use Rattle.model.proofs.Homes.{home-length, home-sections}
+use Rattle.model.proofs.Homes.{home-length, home-front}
 use Rattle.model.proofs.Invariant.{stateAt}
-use Rattle.model.proofs.Journals.{Every, replay-kept}
+use Rattle.model.proofs.Journals.{Every, front, replay-kept}
 use Rattle.model.proofs.Plans.{length-stores, home-two, steps-stores}
 use Rattle.model.proofs.Entries.{Complete, replay-complete, StepFor, step-every}
 use Rattle.model.proofs.Sections.{per-pos, length-empty}
@@ -96,7 +96,7 @@ module _ (g : Layout) (ok : layoutOk g ≡ true) (v₀ : List ℕ) (loan : volum
     done : o .done ≡ i
     state : o .state ≡ inState (phaseAfter i)
     sized : length (o .volume) ≡ length v₀
-    sections : (k : ℕ) → k < g .sections → sectionOf g (o .volume) k ≡ sectionOf g v₀ k
+    fronts : front g (o .volume) ≡ front g v₀
     staging : o .staging ≡ empty
 
   -- ---- no step is refused
@@ -126,7 +126,7 @@ module _ (g : Layout) (ok : layoutOk g ≡ true) (v₀ : List ℕ) (loan : volum
     here = inState (Recovering i)
 
     replayed : replay g v ≡ replay g v₀
-    replayed = replay-kept g v v₀ (R .sections)
+    replayed = replay-kept g v v₀ (R .fronts)
 
     place : StepFor g (Sound g) (recoveryStepAt g v i)
     place = subst (λ (xs : List Replayed). StepFor g (Sound g) (getD (recoverySteps g xs) i (storing noStore))) (sym replayed) (step-every g (Sound g) (replay g v₀) entries i low)
@@ -134,7 +134,7 @@ module _ (g : Layout) (ok : layoutOk g ≡ true) (v₀ : List ℕ) (loan : volum
     present : i < stepsOf g (replay g v)
     present = omega (arith, ap (stepsOf g) replayed)
 
-    steps : stepOf here v empty ≡ recoverBy here v empty i (recoveryStepAt g v i)
+    steps : stepOf here v empty ≡ recoverAt here v empty i (recoveryStepAt g v i)
     steps =
         in-phase here v empty (state-ok (Recovering i) refl) (volume-ok (Recovering i) v (R .sized) (lt-ltb i (stepsOf g (replay g v)) present)) staging-ok (Recovering i) refl
         ∙ ap (stepBy here v empty) (row-passes (recoveryStepAt g v i) place)
@@ -162,9 +162,8 @@ module _ (g : Layout) (ok : layoutOk g ≡ true) (v₀ : List ℕ) (loan : volum
             done = omega (arith, R .done);
             state = state;
             sized = ap length volume ∙ home-length g R′ tag v room-here (x .entry) (s .low) (s .complete .whole) (s .complete .sized) h half ∙ R .sized;
-            sections = λ k l.
-                ap (λ (w : List ℕ). sectionOf g w k) volume
-                ∙ home-sections g R′ tag v room-here (x .entry) (s .low) (s .complete .whole) (s .complete .sized) h half k l ∙ R .sections k l;
+            fronts = ap (front g) volume
+                ∙ home-front g R′ tag v room-here (x .entry) (s .low) (s .complete .whole) (s .complete .sized) h half ∙ R .fronts;
             staging = staging;
           }
 
@@ -174,7 +173,7 @@ module _ (g : Layout) (ok : layoutOk g ≡ true) (v₀ : List ℕ) (loan : volum
       home-reached true q = store-reached _ refl (ap inState (phase-next true q)) refl refl
       home-reached false q = store-reached _ refl (ap inState (phase-next false q)) refl refl
 
-    place-reached : (p : RecoveryStep) → StepFor g (Sound g) p → Reached (suc i) (stepMade o (recoverBy here v empty i p))
+    place-reached : (p : RecoveryStep) → StepFor g (Sound g) p → Reached (suc i) (stepMade o (recoverAt here v empty i p))
     place-reached (storing (storeOf x h)) s = home-reached x h (s .0) (s .1) (eqb (i + 1) (stepsOf g (replay g v))) refl
 
     one-more : Reached (suc i) (oneMore o)
@@ -183,7 +182,7 @@ module _ (g : Layout) (ok : layoutOk g ≡ true) (v₀ : List ℕ) (loan : volum
         (sym ((λ j. stepOf (state-here j) v (R .staging j)) ∙ steps)) (place-reached (recoveryStepAt g v i) place)
 
   starts : Reached 0 (noStep (openedState g v₀) v₀ empty)
-  starts = record { done = refl; state = ap inState (first (ℕ-discrete total 0)); sized = refl; sections = λ k l. refl; staging = refl }
+  starts = record { done = refl; state = ap inState (first (ℕ-discrete total 0)); sized = refl; fronts = refl; staging = refl }
     where
       first : Dec (total ≡ 0) → phaseFor total ≡ phaseAfter 0
       first (yes z) = rw (eq-eqb total 0 z, eq-eqb 0 total (sym z))

@@ -27,7 +27,7 @@ use Rattle.model.specs.Journal.{sectionOf, replay}
 use Rattle.model.specs.Store.{Store, one, homeCount, homeStore, RecoveryStep, storing, stepsOf, recoveryStepAt}
 use Rattle.model.specs.State.{passed, stateOk, volumeOk, stagingOk, inPhase}
 use Rattle.model.specs.Step.{rangeRows, phaseStep, stepBy, stepOf}
-use Rattle.model.specs.JournalStep.{commitStore, commitStep, homeStep, writeBackStep, recoverBy}
+use Rattle.model.specs.JournalStep.{commitStore, commitStep, homeStep, writeBackStep, recoverAt}
 use Rattle.model.specs.StepResult.{StepResult}
 use Rattle.model.specs.NextStore.{nextStoreOf}
 use Rattle.section.specs.declared.Location.{Location}
@@ -199,7 +199,7 @@ module _ (s : State) (v st out : List ℕ) where
             → Fills out (stepOf s v st) o out′ st
         recovers e =
             runs (phases.Recovering k) phase (rw (step-found, lt-leb (s .layout .provided) (entry .sector) (omega (arith, en)))) o out′ st
-            (subst (λ (p : RecoveryStep). Fills out (recoverBy s v st k p) o out′ st) (sym step-found) e)
+            (subst (λ (p : RecoveryStep). Fills out (recoverAt s v st k p) o out′ st) (sym step-found) e)
 
         pub place-told : (more : Bool) → more ≡ ltb (k + 1) (stepsOf (s .layout) (replay (s .layout) v)) → o ≡ recovered s at (k + 1) more → Fills out (stepOf s v st) o out′ st
         place-told true q e =
