@@ -24,7 +24,7 @@ use Rattle.octets.specs.Answer.{Refusal, Answer, taken, refused}
 use Rattle.octets.specs.Choice.{pick}
 use Rattle.model.specs.declared.Done.{Done}
 use Rattle.model.specs.declared.Done.the-variants.{Idle, Stored}
-use Rattle.model.specs.declared.Layout.{Layout}
+use Rattle.on_disk.specs.declared.Layout.{Layout}
 use Rattle.model.specs.declared.Says.{Says}
 use Rattle.model.specs.declared.Says.the-variants as saying
 use Rattle.model.specs.declared.State.{State}

@@ -3,7 +3,7 @@ use Prim.Native.Nat.{ℕ}
 use mathlib.Core.List.{List}
 use mathlib.Core.Path.{_≡_}
 use Rattle.model.specs.declared.FormatAnswer.{FormatAnswer}
-use Rattle.model.specs.declared.Layout.{Layout}
+use Rattle.on_disk.specs.declared.Layout.{Layout}
 use Rattle.model.specs.declared.OpenAnswer.{OpenAnswer}
 use Rattle.model.specs.declared.QueryAnswer.{QueryAnswer}
 use Rattle.model.specs.Refusal.{formatAnswer, openAnswer, queryAnswer}

@@ -4,11 +4,11 @@ use mathlib.Core.List.{List}
 use mathlib.Core.Path.{refl}
 use Rattle.octets.specs.Answer.{taken, refused}
 use Rattle.octets.specs.Choice.{firstMet}
-use Rattle.model.specs.declared.Layout.{Layout}
+use Rattle.on_disk.specs.declared.Layout.{Layout}
 use Rattle.model.specs.State.{Verdict, passed}
 use Rattle.model.specs.Tag.{Tag, tagOf}
 use Rattle.model.specs.Format.{formatRows, formatBy, formatOf}
-use Rattle.model.specs.Superblock.{superblockAt, layoutIn}
+use Rattle.on_disk.specs.Superblock.{superblockAt, layoutIn}
 use Rattle.model.specs.Journal.{replay}
 use Rattle.model.specs.Open.{superblockRows, openRows, entriesVerdict, openBy, openWith}
 use Rattle.model.specs.Query.{queryBy, queryWith}

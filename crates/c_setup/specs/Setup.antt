@@ -12,7 +12,7 @@ use mathlib.Core.Bool.{false}
 use mathlib.Core.List.{List}
 use lib.ListN.{length}
 use Rattle.octets.specs.Answer.{Answer}
-use Rattle.model.specs.declared.Layout.{Layout}
+use Rattle.on_disk.specs.declared.Layout.{Layout}
 use Rattle.model.specs.Tag.{tagOf}
 use Rattle.model.specs.Format.{FormatResult, formatOf}
 use Rattle.model.specs.Open.{OpenResult, openOf}

@@ -16,7 +16,7 @@ use c_replies::put_held;
 use c_replies::put_opened;
 use c_replies::put_reply;
 use c_replies::query_reply;
-use model::Layout;
+use on_disk::Layout;
 ghost use mathlib.Core.Path.{_≡_};
 ghost use Rattle.c_setup.specs.Setup.{layoutWith, formatCall, queryCall, openCall};
 

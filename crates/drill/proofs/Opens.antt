@@ -10,15 +10,15 @@ use borrow.Author.Tests.{ne-eqb}
 use Rattle.octets.specs.Answer.{taken, refused, refuse, isTaken}
 use Rattle.octets.specs.Choice.{firstMet}
 use Rattle.octets.specs.Sectors.{sectorSize}
-use Rattle.model.specs.Layout.{entryCount, sectionSize}
-use Rattle.model.specs.Superblock.{superblockAt, layoutIn}
+use Rattle.on_disk.specs.Layout.{entryCount, sectionSize}
+use Rattle.on_disk.specs.Superblock.{superblockAt, layoutIn}
 use Rattle.model.specs.Journal.{replay}
 use Rattle.model.specs.State.{Verdict, stagingOk}
 use Rattle.model.specs.Tag.{Tags}
 use Rattle.model.specs.Open.{OpenResult, superblockRows, openRows, entriesVerdict, openBy, openWith, openOf}
 use Rattle.model.specs.Medium.{mediumOf}
 use Rattle.model.specs.World.{off, World, byOpen, resting}
-use Rattle.model.specs.declared.Layout.{Layout}
+use Rattle.on_disk.specs.declared.Layout.{Layout}
 use Rattle.drill.specs.Played.{stagingIn}
 use Rattle.drill.proofs.Rows.{each}
 

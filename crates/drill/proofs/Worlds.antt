@@ -19,7 +19,7 @@ use Rattle.model.proofs.Demand3.{demand3-sha256}
 use Rattle.model.specs.declared.FormatAnswer.{FormatAnswer}
 use Rattle.model.specs.declared.FormatAnswer.the-variants.{Formatted, Refused}
 use Rattle.model.specs.declared.Refusal.{Refusal}
-use Rattle.model.specs.declared.Layout.{Layout}
+use Rattle.on_disk.specs.declared.Layout.{Layout}
 use Rattle.drill.specs.declared.Live.the-variants.{Off}
 use Rattle.drill.specs.declared.Moment.{Moment}
 use Rattle.drill.specs.Script.{eventSize, eventOf, eventAt, eventsUpTo, eventsOf}

@@ -26,7 +26,7 @@ use Rattle.model.specs.Format.{formatOf}
 use Rattle.model.specs.Medium.{mediumOf, volumeIn}
 use Rattle.model.specs.World.{Event, aCut, anOpen, aWrite, aFlush, aStep, aNextStore, aRead, Setting, Live, off, on, World, begin, happens, next, after}
 use Rattle.model.specs.Demand3.{Agrees, ledgerAfter}
-use Rattle.model.specs.declared.Layout.{Layout}
+use Rattle.on_disk.specs.declared.Layout.{Layout}
 use Rattle.drill.specs.declared.Live as code
 use Rattle.drill.specs.declared.Live.the-variants.{Off, On}
 use Rattle.drill.specs.declared.Moment.{Moment}

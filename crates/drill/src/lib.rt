@@ -4,9 +4,9 @@
 // bytes, four to an event: its kind, a logical sector (2 bytes, little-endian), and a byte that fills the loans of the call. Any bytes are one.
 // Which lists a script can write is in specs/Script.antt.
 use model::FormatAnswer;
-use model::Layout;
 use model::OpenAnswer;
 use model::State;
+use on_disk::Layout;
 use volume::SECTOR_SIZE;
 ghost use Prim.Native.Nat.{ℕ};
 ghost use mathlib.Core.Bool.{false};

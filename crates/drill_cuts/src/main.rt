@@ -6,7 +6,7 @@
 mod script;
 mod tally;
 
-use model::Layout;
+use on_disk::Layout;
 use tally::Tally;
 
 // The bytes of the larger volume, of a section, and of the longest script.

@@ -9,14 +9,14 @@ use lib.IntN.{ℤ, pos, negsuc}
 use lib.ListN.{length, replicate}
 use Rattle.octets.specs.Answer.{Answer, taken, refused, numberIn}
 use Rattle.octets.specs.Parts.{same}
-use Rattle.model.specs.declared.Layout.{Layout}
+use Rattle.on_disk.specs.declared.Layout.{Layout}
 use Rattle.model.specs.declared.Phase.the-variants.{Filling}
 use Rattle.model.specs.declared.State.{State}
 use Rattle.model.specs.declared.Refusal.{Refusal}
 use Rattle.model.specs.declared.Refusal.the-variants as volume
 use Rattle.model.specs.Refusal.{refusalOf}
-use Rattle.model.specs.Layout.{widthOk, layoutOk, entrySize, perSector, entryCount, sectionSize, tagArea, dataAt, tagByte, needed}
-use Rattle.model.specs.Section.{emptySection}
+use Rattle.on_disk.specs.Layout.{widthOk, layoutOk, entrySize, perSector, entryCount, sectionSize, tagArea, dataAt, tagByte, needed}
+use Rattle.on_disk.specs.Section.{emptySection}
 use Rattle.model.specs.Journal.{sectionFor}
 use Rattle.model.specs.State.{stateOk, stagingOk}
 use Rattle.model.specs.Tag.{tagOf}

@@ -6,10 +6,10 @@ use mathlib.Core.Path.{_≡_, sym, ap, _∙_}
 use native.Mathlib.Omega.{arith}
 use lib.Dec.{ltb}
 use lib.ListN.{List·getD-map}
-use Rattle.model.specs.Layout.{layoutOk}
+use Rattle.on_disk.specs.Layout.{layoutOk}
 use Rattle.model.specs.Journal.{sectionOf, replay}
 use Rattle.model.specs.Store.{entryStores, noStore, storing, stepsOf, recoveryStepAt}
-use Rattle.model.specs.declared.Layout.{Layout}
+use Rattle.on_disk.specs.declared.Layout.{Layout}
 use Rattle.model.proofs.Plans.{steps-stores}
 use Rattle.section.specs.Locations.{Locates}
 use Rattle.section.specs.declared.Location.{Location}

@@ -10,12 +10,12 @@ use lib.ListN.{getD}
 use borrow.Author.Tests.{eq-eqb, ne-eqb}
 use Rattle.octets.specs.Choice.{pick}
 use Rattle.octets.specs.Sectors.{sectorAt}
-use Rattle.model.specs.Layout.{sectionSize, layoutOk}
-use Rattle.model.specs.Section.{idOf, wholeId}
+use Rattle.on_disk.specs.Layout.{sectionSize, layoutOk}
+use Rattle.on_disk.specs.Section.{idOf, wholeId}
 use Rattle.octets.specs.Lists.{allBelow, firstBelow}
 use Rattle.model.specs.Journal.{sectionOf, sectionFor, wholeIds}
 use Rattle.model.specs.Open.{misplacedId, misplaced}
-use Rattle.model.specs.declared.Layout.{Layout}
+use Rattle.on_disk.specs.declared.Layout.{Layout}
 use Rattle.journal.specs.Replay.{idsOf}
 use Rattle.journal.proofs.Walks.{getD-ids}
 use Rattle.model.proofs.Journals.{all-below, below-all, whole-all, whole-not}

@@ -12,9 +12,9 @@ use Rattle.octets.specs.Numbers.{Bytes, le, value}
 use Rattle.octets.specs.Parts.{part, patch, same}
 use Rattle.octets.proofs.Numbers.{le-value}
 use Rattle.octets.proofs.Parts.{length-part, patch-join, patch-all, eq-same, ne-same, bytes-part}
-use Rattle.model.specs.Layout.{layoutOk}
-use Rattle.model.specs.Superblock.{magic, superblockOf, layoutIn, isZero, superblockOk}
-use Rattle.model.specs.declared.Layout.{Layout}
+use Rattle.on_disk.specs.Layout.{layoutOk}
+use Rattle.on_disk.specs.Superblock.{magic, superblockOf, layoutIn, isZero, superblockOk}
+use Rattle.on_disk.specs.declared.Layout.{Layout}
 
 -- ---- bytes that are all zero
 

@@ -5,9 +5,9 @@ use mathlib.Core.Path.{_≡_, refl, ap}
 use native.Mathlib.Nat.{mul-le-mul, mul-le-mul-left, div-add-mod', mod-lt, pow-le-pow-right}
 use native.Mathlib.Omega.{arith}
 use lib.Pow.{pow-pos}
-use Rattle.model.specs.Layout.{mostProvided, entrySize, perSector, sectionSize, runLength, tagArea, sectionAt, needed, layoutOk}
-use Rattle.model.specs.declared.Layout.{Layout}
-use Rattle.model.proofs.Addresses.{Ranged, ranged, section-low, base-room}
+use Rattle.on_disk.specs.Layout.{mostProvided, entrySize, perSector, sectionSize, runLength, tagArea, sectionAt, needed, layoutOk}
+use Rattle.on_disk.specs.declared.Layout.{Layout}
+use Rattle.on_disk.proofs.Addresses.{Ranged, ranged, section-low, base-room}
 
 pub per-high : (t : ℕ) → perSector t ≤ 31
 per-high t =

@@ -1,18 +1,18 @@
-// Sizes and addresses: R15 to R28. Each function gives what the definition of its name in the model's
-// specs/Layout.antt gives, with a bound, so that a caller's arithmetic needs no other fact. Unless another unit is named, a size is in sectors,
+// Sizes and addresses: R15 to R28. Each function gives what the definition of its name in specs/Layout.antt
+// of crate on_disk gives, with a bound, so that a caller's arithmetic needs no other fact. Unless another unit is named, a size is in sectors,
 // and an address is the number of a sector of the volume.
 //
-// `layout_ok`, `width_ok` and `volume_loan_ok`, which is that of specs/State.antt, take anything. The others are for the crates of this repository: they require a layout in range, or a tag of
+// `layout_ok`, `width_ok` and `volume_loan_ok`, which is that of the model's specs/State.antt, take anything. The others are for the crates of this repository: they require a layout in range, or a tag of
 // at most 32 bytes, which their callers have tested.
 pub mod superblock;
 
-use model::Layout;
+use on_disk::Layout;
 ghost use mathlib.Core.Bool.{true};
 ghost use mathlib.Core.Path.{_≡_};
 ghost use Prim.Native.Nat.{_*_, _^_, _≤_, _<_};
 ghost use lib.ListN.{length};
-ghost use Rattle.model.specs.Layout.{mostProvided, entrySize, perSector, entryCount, sectionSize, sectionAt, runLength, tagArea, runAt, dataAt, tagByte, needed, widthOk, layoutOk};
-ghost use Rattle.model.specs.Section.{Entry};
+ghost use Rattle.on_disk.specs.Layout.{mostProvided, entrySize, perSector, entryCount, sectionSize, sectionAt, runLength, tagArea, runAt, dataAt, tagByte, needed, widthOk, layoutOk};
+ghost use Rattle.on_disk.specs.Section.{Entry};
 ghost use Rattle.model.specs.Store.{mostHomeStores, homeCount};
 ghost use Rattle.model.specs.State.{volumeLoanOk};
 

@@ -3,14 +3,14 @@
 // It is tested field by field: the numbers that it holds are read, and every other byte is compared with what format writes.
 use crate::SECTOR_SIZE;
 use crate::SUPERBLOCK_SIZE;
-use model::Layout;
+use on_disk::Layout;
 ghost use mathlib.Core.Bool.{true};
 ghost use mathlib.Core.Path.{_≡_};
 ghost use Prim.Native.Nat.{_+_, _*_, _≤_};
 ghost use lib.ListN.{length};
 ghost use Rattle.octets.specs.Sectors.{sectorSize};
-ghost use Rattle.model.specs.Layout.{superblockSize, layoutOk};
-ghost use Rattle.model.specs.Superblock.{superblockOf, superblockAt, layoutIn, isZero, superblockOk};
+ghost use Rattle.on_disk.specs.Layout.{superblockSize, layoutOk};
+ghost use Rattle.on_disk.specs.Superblock.{superblockOf, superblockAt, layoutIn, isZero, superblockOk};
 
 // The bytes by which a volume is known, compared at open and written by format.
 const MAGIC: [u8; 8] = *b"integrt\0";

@@ -7,8 +7,8 @@ use native.Mathlib.Omega.{arith}
 use lib.Dec.{ltb}
 use Rattle.octets.specs.Answer.{taken, refused}
 use Rattle.octets.specs.Choice.{pick, firstMet}
-use Rattle.model.specs.Layout.{sectionSize}
-use Rattle.model.specs.Section.{Entry}
+use Rattle.on_disk.specs.Layout.{sectionSize}
+use Rattle.on_disk.specs.Section.{Entry}
 use Rattle.model.specs.Store.{storeOf, RecoveryStep, storing, afterEffect, recoveryStepAt}
 use Rattle.model.specs.State.{Verdict, passed}
 use Rattle.model.specs.Step.{stepRows, phaseStep, stepBy, stepOf}

@@ -14,8 +14,8 @@ use Rattle.octets.specs.Answer.{Refusal, taken, refused, isTaken}
 use Rattle.octets.specs.Choice.{pick, firstMet}
 use Rattle.octets.proofs.Answers.{refused-not-taken}
 use Rattle.octets.proofs.Choice.{Unmet, unmet}
-use Rattle.model.specs.Layout.{entryCount, sectionSize}
-use Rattle.model.specs.Section.{Entry, entryOf, putEntry}
+use Rattle.on_disk.specs.Layout.{entryCount, sectionSize}
+use Rattle.on_disk.specs.Section.{Entry, entryOf, putEntry}
 use Rattle.model.specs.Tag.{Tag, Tags}
 use Rattle.model.specs.State.{Verdict, passed, lastId, sectorOk, stateOk, stagingOk, isFilling}
 use Rattle.model.specs.Write.{newEntry, writeRows, WriteResult, writeOf}
@@ -23,12 +23,12 @@ use Rattle.model.specs.Flush.{FlushResult, flushRows, flushOf}
 use Rattle.model.specs.Ledger.{Ledger, afterWrite}
 use Rattle.model.specs.Medium.{Medium, volumeIn}
 use Rattle.model.specs.World.{byWrite, byFlush, Live, on}
-use Rattle.model.proofs.Sections.{length-putEntry, entryOf-put-same, entryOf-put-other}
+use Rattle.on_disk.proofs.Sections.{length-putEntry, entryOf-put-same, entryOf-put-other}
 use Rattle.model.proofs.Journals.{batchOf}
-use Rattle.model.proofs.Addresses.{and-both}
+use Rattle.on_disk.proofs.Addresses.{and-both}
 use Rattle.model.proofs.Invariant.{Premises, stateAt, Good, Disk, AtFilling, old, Lives, working, inFilling, inCommitting, inWritingBack, inRecovering}
 use Rattle.model.proofs.Steps.{Leads, never, length-batch}
-use Rattle.model.specs.declared.Layout.{Layout}
+use Rattle.on_disk.specs.declared.Layout.{Layout}
 use Rattle.model.specs.declared.Phase.the-variants.{Filling, Committing}
 use Rattle.model.specs.declared.State.{State}
 

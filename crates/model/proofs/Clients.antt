@@ -10,11 +10,10 @@ use lib.Dec.{eqb}
 use lib.ListN.{length, getD, drop, replicate, length-append, length-replicate}
 use Rattle.octets.specs.Answer.{taken, isTaken}
 use Rattle.octets.specs.Sectors.{sectorAt}
-use Rattle.model.specs.declared.Layout.{Layout}
+use Rattle.on_disk.specs.declared.Layout.{Layout}
 use Rattle.model.specs.declared.State.{State}
-use Rattle.model.specs.Layout.{sectionSize, sectionAt, base, dataAt, tagByte, needed, layoutOk}
-use Rattle.model.specs.Geometry.{Apart}
-use Rattle.model.specs.Section.{Entry, wholeId, emptySection}
+use Rattle.on_disk.specs.Layout.{sectionSize, sectionAt, base, dataAt, tagByte, needed, layoutOk}
+use Rattle.on_disk.specs.Section.{Entry, wholeId, emptySection}
 use Rattle.model.specs.Journal.{usedOf}
 use Rattle.model.specs.Tag.{Tags, TagsOf, tagAt}
 use Rattle.model.specs.State.{passed}
@@ -30,11 +29,10 @@ use Rattle.model.specs.StepResult.{stepAcknowledges}
 use Rattle.model.specs.Guarantees.{Outside}
 use Rattle.model.specs.ReadBack.{AllSized, putBatch, sealedSection, numbered}
 use Rattle.octets.proofs.Parts.{drop-past}
-use Rattle.model.proofs.Addresses.{ranged}
-use Rattle.model.proofs.Sections.{per-pos}
+use Rattle.on_disk.proofs.Addresses.{ranged}
+use Rattle.on_disk.proofs.Sections.{per-pos}
 use Rattle.model.proofs.Demand3.{demand3}
 use Rattle.model.proofs.Guarantees.{guaranteed}
-use Rattle.model.proofs.Geometry.{geometric}
 use Rattle.model.proofs.ReadBack.{read-back}
 use Rattle.model.proofs.Reserved.{reserved-unread}
 
@@ -116,17 +114,6 @@ high-batch g ok =
     let sized : AllSized (g .width) (highest (g .width) ∷ []) =
     (record { sector = omega arith; bytes = length-replicate {A = ℕ} 512 255; tag = length-replicate {A = ℕ} (g .width) 255 }, tt) in
     read-back g ok (highest (g .width) ∷ []) (omega (arith, per-pos (g .width) (omega (arith, ranged g ok .t .bound)))) sized 63 (2 ^ 64 - 1) (λ z. omega (arith, z)) (omega arith)
-
--- ---- the last section, the last sector's data and tag
-
-last-section : (g : Layout) → layoutOk g ≡ true → 0 < g .sections → sectionAt g (g .sections - 1) + sectionSize (g .width) ≤ base g
-last-section g ok l = geometric g ok .journal (g .sections - 1) (omega arith) .1
-
-last-data : (g : Layout) → layoutOk g ≡ true → 0 < g .provided → dataAt g (g .provided - 1) < needed g
-last-data g ok l = geometric g ok .contents (g .provided - 1) (omega arith) .1
-
-neighbours : (g : Layout) → layoutOk g ≡ true → (s : ℕ) → Apart (tagByte g s) (g .width) (tagByte g (s + 1)) (g .width)
-neighbours g ok s = geometric g ok .tags-apart s (s + 1) (λ z. omega (arith, z))
 
 -- ---- with 64 reserved sectors, all of them other bytes
 

@@ -14,11 +14,11 @@ use borrow.Author.Tests.{lt-ltb, le-ltb}
 use Rattle.octets.specs.Parts.{part}
 use Rattle.octets.specs.Sectors.{sectorAt, putSector}
 use Rattle.octets.proofs.Sectors.{length-put, sector-put-same, sector-put-other}
-use Rattle.model.specs.declared.Layout.{Layout}
+use Rattle.on_disk.specs.declared.Layout.{Layout}
 use Rattle.model.specs.declared.Phase.{Phase}
 use Rattle.model.specs.declared.Phase.the-variants.{Committing}
 use Rattle.model.specs.declared.State.{State}
-use Rattle.model.specs.Layout.{mostSectors, sectionSize, sectionAt, needed}
+use Rattle.on_disk.specs.Layout.{mostSectors, sectionSize, sectionAt, needed}
 use Rattle.octets.specs.Lists.{collect}
 use Rattle.model.specs.Journal.{sectionOf, sectionFor, sealed}
 use Rattle.model.specs.State.{volumeLoanOk, replayOk, stateOk, volumeOk, stagingOk, inPhase}
@@ -28,7 +28,7 @@ use Rattle.model.specs.JournalStep.{commitStep}
 use Rattle.model.specs.StepResult.{StepResult}
 use Rattle.model.specs.Advance.{AdvanceResult, oneMore, advanceFrom, advanceOf}
 use Rattle.model.specs.ReadBack.{sealedSection, CommitStores}
-use Rattle.model.proofs.Addresses.{ranged, section-low, base-room}
+use Rattle.on_disk.proofs.Addresses.{ranged, section-low, base-room}
 use Rattle.model.proofs.Journals.{length-sealed}
 use Rattle.model.proofs.States.{state-layout, state-commits, staging-length, volume-room}
 

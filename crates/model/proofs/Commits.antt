@@ -12,8 +12,8 @@ use lib.ListN.{length, getD}
 use Rattle.octets.specs.Choice.{pick}
 use Rattle.model.specs.Guarantees.{Outside}
 use Rattle.octets.specs.Sectors.{sectorAt}
-use Rattle.model.specs.Layout.{entryCount, sectionSize}
-use Rattle.model.specs.Section.{unused, idOf, entryOf, wholeId, greatestIn}
+use Rattle.on_disk.specs.Layout.{entryCount, sectionSize}
+use Rattle.on_disk.specs.Section.{unused, idOf, entryOf, wholeId, greatestIn}
 use Rattle.octets.specs.Lists.{allBelow}
 use Rattle.model.specs.Journal.{sealed, dueIds, sectionOf, greatestId, wholeIds, Replayed, usedOf, replay}
 use Rattle.model.specs.Tag.{Tag}
@@ -22,7 +22,7 @@ use Rattle.model.proofs.Replays.{mentions, mentions-append, or-right, C
 use Rattle.model.proofs.Journals.{id-sealed, entry-sealed, top-section, top-least, due-of, due-le, due-new, Every, writes, writes-append, batchOf, whole-all, whole-not, whole-le, top-ge, top-le, used-batch, used-every, others, was-torn, was-oldest, is-torn, is-newest}
 use Rattle.model.proofs.Homes.{Home}
 use Rattle.model.proofs.Invariant.{Premises, Good, GoodSection, Disk, Staged}
-use Rattle.model.specs.declared.Layout.{Layout}
+use Rattle.on_disk.specs.declared.Layout.{Layout}
 
 -- two numbers that leave one rest are a divisor apart
 pub apart-mod : (a b s : ℕ) → a < b → a % s ≡ b % s → a + s ≤ b

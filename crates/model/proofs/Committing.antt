@@ -12,19 +12,19 @@ use Rattle.octets.specs.Parts.{same}
 use Rattle.octets.specs.Sectors.{sectorAt, putSector}
 use Rattle.octets.proofs.Parts.{eq-same}
 use Rattle.octets.proofs.Sectors.{sector-put-same, sector-put-other, length-put}
-use Rattle.model.specs.Layout.{sectionSize, sectionAt}
-use Rattle.model.specs.Section.{entryOf}
+use Rattle.on_disk.specs.Layout.{sectionSize, sectionAt}
+use Rattle.on_disk.specs.Section.{entryOf}
 use Rattle.model.proofs.Plans.{home-some}
 use Rattle.model.specs.Journal.{sealed}
 use Rattle.model.specs.Tag.{Tag}
 use Rattle.model.specs.Ledger.{Write, Ledger, entered}
 use Rattle.model.proofs.Replays.{Pass}
 use Rattle.model.proofs.Journals.{length-sealed, batchOf}
-use Rattle.model.proofs.Addresses.{section-low, base-room}
+use Rattle.on_disk.proofs.Addresses.{section-low, base-room}
 use Rattle.model.proofs.Homes.{Home}
 use Rattle.model.proofs.Invariant.{Premises, Disk, slot, Landed, new, old, Torn, AtCommit, AtHome}
 use Rattle.model.proofs.Cuts.{whole-disk, whole-top, whole-named, whole-starts}
-use Rattle.model.specs.declared.Layout.{Layout}
+use Rattle.on_disk.specs.declared.Layout.{Layout}
 
 module _ (tag : Tag) (g : Layout) (v₀ : List ℕ) (X : Premises tag g v₀)
     (v : List ℕ) (l : Ledger) (n m j : ℕ) (st : List ℕ) (A : AtCommit tag g v₀ v l n m j st) where

@@ -13,9 +13,9 @@ use Rattle.octets.specs.Parts.{part, same}
 use Rattle.octets.specs.Sectors.{sectorAt}
 use Rattle.octets.proofs.Parts.{same-true, eq-same}
 use Rattle.octets.proofs.Sectors.{sector-part}
-use Rattle.model.specs.Geometry.{Apart, before, behind}
-use Rattle.model.specs.Layout.{sectionSize, sectionAt, base, dataAt, tagByte}
-use Rattle.model.specs.Section.{idOf}
+use Rattle.on_disk.specs.Geometry.{Apart, before, behind}
+use Rattle.on_disk.specs.Layout.{sectionSize, sectionAt, base, dataAt, tagByte}
+use Rattle.on_disk.specs.Section.{idOf}
 use Rattle.octets.specs.Lists.{allBelow}
 use Rattle.model.specs.Journal.{sealed, sectionOf, greatestId, replay}
 use Rattle.model.specs.Tag.{Tag, tagAt}
@@ -25,13 +25,13 @@ use Rattle.model.specs.World.{Live}
 use Rattle.model.specs.declared.Phase.the-variants.{Committing}
 use Rattle.model.proofs.Replays.{mentions, Clean, Pass, Which, isTrue, isFalse, which}
 use Rattle.model.proofs.Journals.{top-section, id-sealed, top-ge, writes, batchOf, below-all}
-use Rattle.model.proofs.Addresses.{tag-sector, data-high, tag-high, section-apart, section-low}
+use Rattle.on_disk.proofs.Addresses.{tag-sector, data-high, tag-high, section-apart, section-low}
 use Rattle.model.proofs.Volumes.{part-bytes, sectors-ext, volume-ext, getD-sector}
 use Rattle.model.specs.Guarantees.{Outside}
 use Rattle.model.proofs.Homes.{Home}
 use Rattle.model.proofs.Invariant.{Premises, Disk, Staged, slot, Landed, new, old, Torn, AtCommit, Lives, stopped, working, inFilling, inCommitting, inWritingBack, inRecovering}
 use Rattle.model.proofs.Commits.{Fails, at, fails, disk-some, disk-all, top-now, batch-named, batch-starts}
-use Rattle.model.specs.declared.Layout.{Layout}
+use Rattle.on_disk.specs.declared.Layout.{Layout}
 
 pub and-false : (a : Bool) → _&&_ a false ≡ false
 and-false true = refl

@@ -18,8 +18,8 @@ use Rattle.octets.specs.Parts.{same}
 use Rattle.octets.specs.Sectors.{sectorAt}
 use Rattle.octets.proofs.Parts.{eq-same}
 use Rattle.octets.proofs.Sectors.{sector-part}
-use Rattle.model.specs.Layout.{mostSectors, sectionSize, sectionAt, dataAt}
-use Rattle.model.specs.Section.{idOf, entryOf, emptySection, greatestIn}
+use Rattle.on_disk.specs.Layout.{mostSectors, sectionSize, sectionAt, dataAt}
+use Rattle.on_disk.specs.Section.{idOf, entryOf, emptySection, greatestIn}
 use Rattle.model.specs.Journal.{greatestId, dueIds, sectionOf, wholeIds, ordered, replayIn, replay}
 use Rattle.model.specs.State.{sectorOk, passed}
 use Rattle.model.specs.Tag.{Tag, Tags, tagOf, tagAt}
@@ -38,9 +38,9 @@ use Rattle.model.specs.Guarantees.{OpensFresh, FreshOpens}
 use Rattle.model.specs.Demand3.{Agrees, Demand3, Demand3Sha256}
 use Rattle.model.proofs.Formats.{Fresh, format-layout, format-fresh}
 use Rattle.model.proofs.Replays.{lastFor-append, Which, which, isTrue, isFalse}
-use Rattle.model.proofs.Sections.{per-pos}
+use Rattle.on_disk.proofs.Sections.{per-pos}
 use Rattle.model.proofs.Journals.{due-le, top-least, writeOfEntry, batchOf, top-le, whole-le}
-use Rattle.model.proofs.Addresses.{and-both, ranged, section-low}
+use Rattle.on_disk.proofs.Addresses.{and-both, ranged, section-low}
 use Rattle.model.proofs.Homes.{Home}
 use Rattle.model.proofs.Invariant.{Premises, before-journal, stateAt, Disk, AtFilling, Lives, stopped}
 use Rattle.model.proofs.Cuts.{and-false, cuts}
@@ -48,7 +48,7 @@ use Rattle.model.proofs.Steps.{Inv, Leads, never, fillingIn, sound, sou
 use Rattle.model.proofs.Batches.{Filled, it, filled, write-keeps, flush-keeps}
 use Rattle.model.proofs.NextStore.{next-told, next-refused, step-stores}
 use Rattle.model.proofs.Opens.{open-runs, query-holds, open-keeps}
-use Rattle.model.specs.declared.Layout.{Layout}
+use Rattle.on_disk.specs.declared.Layout.{Layout}
 use Rattle.model.specs.declared.Phase.the-variants.{Filling}
 use Rattle.model.specs.declared.State.{State}
 

@@ -10,14 +10,14 @@ use lib.ListN.{length, getD, length-append, List·getD-append, List·getD-map}
 use lib.Seq.{getD-append-add}
 use Rattle.octets.specs.Choice.{pick}
 use Rattle.octets.proofs.Parts.{length-part}
-use Rattle.model.specs.declared.Layout.{Layout}
-use Rattle.model.specs.Layout.{entryCount, sectionSize, sectionAt, needed}
-use Rattle.model.specs.Section.{unused, entryOf}
+use Rattle.on_disk.specs.declared.Layout.{Layout}
+use Rattle.on_disk.specs.Layout.{entryCount, sectionSize, sectionAt, needed}
+use Rattle.on_disk.specs.Section.{unused, entryOf}
 use Rattle.octets.specs.Lists.{collect}
 use Rattle.model.specs.Journal.{Replayed, usedEntry, usedOf, sectionOf, replay}
 use Rattle.model.specs.Store.{homeCount, EntryStore, storeOf, storesOfEntry, entryStores, storesOf, RecoveryStep, storing, recoverySteps, stepsOf, noStore}
-use Rattle.model.proofs.Addresses.{Ranged, section-low, base-room}
-use Rattle.model.proofs.Sections.{bytes-length, tag-length}
+use Rattle.on_disk.proofs.Addresses.{Ranged, section-low, base-room}
+use Rattle.on_disk.proofs.Sections.{bytes-length, tag-length}
 use Rattle.model.proofs.Journals.{Every, every-append, every-replay}
 use Rattle.model.proofs.Plans.{length-stores, get-stores, steps-stores}
 

@@ -14,10 +14,10 @@ use Rattle.octets.specs.Numbers.{le}
 use Rattle.octets.specs.Parts.{part}
 use Rattle.octets.specs.Sectors.{sectorAt}
 use Rattle.octets.proofs.Parts.{part-append-left, take-replicate, drop-replicate, part-part}
-use Rattle.model.specs.Layout.{sectionSize, sectionAt, base, runLength, tagArea, dataAt, tagByte, needed, layoutOk}
+use Rattle.on_disk.specs.Layout.{sectionSize, sectionAt, base, runLength, tagArea, dataAt, tagByte, needed, layoutOk}
 use Rattle.octets.specs.Lists.{collect}
-use Rattle.model.specs.Superblock.{superblockOf, superblockAt}
-use Rattle.model.proofs.Sections.{length-collect, part-collect}
+use Rattle.on_disk.specs.Superblock.{superblockOf, superblockAt}
+use Rattle.on_disk.proofs.Sections.{length-collect, part-collect}
 use Rattle.model.specs.Tag.{Tag, Tags, tagAt}
 use Rattle.model.specs.State.{volumeLoanOk, Verdict, passed}
 use Rattle.octets.specs.Choice.{firstMet}
@@ -25,8 +25,8 @@ use Rattle.octets.proofs.Answers.{refused-not-taken}
 use Rattle.octets.proofs.Choice.{Unmet, unmet}
 use Rattle.model.specs.Format.{zeros, freshTags, freshRun, lastRun, lastLength, freshVolume, formatRows, formatBy, formatOf}
 use Rattle.model.proofs.Batches.{Seen, isPassed, isRefused, seen, not-not}
-use Rattle.model.proofs.Addresses.{Ranged, ranged, tag-in-area, base-room}
-use Rattle.model.specs.declared.Layout.{Layout}
+use Rattle.on_disk.proofs.Addresses.{Ranged, ranged, tag-in-area, base-room}
+use Rattle.on_disk.specs.declared.Layout.{Layout}
 
 -- what format leaves, as the proof of demand 3 uses it
 pub record Fresh (tag : Tag) (g : Layout) (v : List ℕ) : Type 0 where

@@ -11,12 +11,12 @@ use lib.Dec.{eqb}
 use borrow.Author.Tests.{eq-eqb, ne-eqb, lt-ltb, le-ltb}
 use Rattle.octets.specs.Answer.{taken, refusal, refuse, isTaken}
 use Rattle.octets.proofs.Answers.{taken-same, refused-not-taken}
-use Rattle.model.specs.declared.Layout.{Layout}
+use Rattle.on_disk.specs.declared.Layout.{Layout}
 use Rattle.model.specs.declared.Phase.{Phase}
 use Rattle.model.specs.declared.Phase.the-variants.{Committing, WritingBack, Recovering}
 use Rattle.model.specs.declared.State.{State}
-use Rattle.model.specs.Layout.{sectionSize, needed}
-use Rattle.model.specs.Section.{Entry, entryOf, emptySection}
+use Rattle.on_disk.specs.Layout.{sectionSize, needed}
+use Rattle.on_disk.specs.Section.{Entry, entryOf, emptySection}
 use Rattle.model.specs.Journal.{greatestId, replay}
 use Rattle.model.specs.Tag.{Tag, Tags, tagOf}
 use Rattle.model.specs.Store.{stepsOf}
@@ -27,7 +27,7 @@ use Rattle.model.specs.Ledger.{hasLast, Ledger, start, entersNext}
 use Rattle.model.specs.Medium.{Medium, volumeIn}
 use Rattle.model.specs.World.{settingOf, Setting, Live, off, on, World, anOpen, aStep, begin, byOpen, happens, next, after}
 use Rattle.model.specs.StepResult.{stepAcknowledges, stepSettles, StepResult}
-use Rattle.model.proofs.Addresses.{base-room, data-room, tag-room, tag-inside, tag-sector}
+use Rattle.on_disk.proofs.Addresses.{base-room, data-room, tag-room, tag-inside, tag-sector}
 use Rattle.model.proofs.Plans.{at-get}
 use Rattle.model.proofs.Invariant.{Premises, stateAt, Disk, AtRecover, Lives, stopped, working, inFilling, inCommitting, inWritingBack, inRecovering}
 use Rattle.model.specs.Open.{openedState, OpenResult, openBy, openOf}

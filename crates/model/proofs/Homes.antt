@@ -10,17 +10,17 @@ use Rattle.octets.specs.Parts.{part, patch}
 use Rattle.octets.specs.Sectors.{sectorAt, putSector}
 use Rattle.octets.proofs.Parts.{length-patch, part-patch-same, part-patch-before, part-patch-after, getD-patch-other}
 use Rattle.octets.proofs.Sectors.{put-inside, sector-part, sector-put-same, sector-put-other}
-use Rattle.model.specs.Geometry.{Apart, before, behind}
-use Rattle.model.specs.Layout.{sectionSize, sectionAt, base, dataAt, tagSector, tagOffset, tagByte, needed}
-use Rattle.model.specs.Section.{Entry}
+use Rattle.on_disk.specs.Geometry.{Apart, before, behind}
+use Rattle.on_disk.specs.Layout.{sectionSize, sectionAt, base, dataAt, tagSector, tagOffset, tagByte, needed}
+use Rattle.on_disk.specs.Section.{Entry}
 use Rattle.model.specs.Journal.{sectionOf}
 use Rattle.model.specs.Tag.{Tag, tagAt}
 use Rattle.model.specs.Store.{homeCount, homeStore, made}
 use Rattle.model.proofs.Plans.{home-two}
 use Rattle.model.proofs.Journals.{front}
 use Rattle.model.proofs.Replays.{Holds, Frame}
-use Rattle.model.proofs.Addresses.{part-apart, Ranged, data-tag, data-data, tag-tag, tag-sector, tag-inside, data-high, tag-high, data-room, tag-room, section-apart, section-low, base-room}
-use Rattle.model.specs.declared.Layout.{Layout}
+use Rattle.on_disk.proofs.Addresses.{part-apart, Ranged, data-tag, data-data, tag-tag, tag-sector, tag-inside, data-high, tag-high, data-room, tag-room, section-apart, section-low, base-room}
+use Rattle.on_disk.specs.declared.Layout.{Layout}
 
 -- sector s is at home with bytes d
 abbrev pub Home : Layout → Tag → List ℕ → Holds

@@ -8,9 +8,9 @@ use native.Mathlib.Omega.{arith}
 use lib.ListN.{length, getD}
 use Rattle.octets.specs.Parts.{part}
 use Rattle.octets.specs.Sectors.{sectorAt}
-use Rattle.model.specs.Superblock.{superblockOf, superblockAt}
-use Rattle.model.specs.Layout.{perSector, layoutOk, entryCount, sectionSize, sectionAt, dataAt, needed}
-use Rattle.model.specs.Section.{Entry, unused, entryOf}
+use Rattle.on_disk.specs.Superblock.{superblockOf, superblockAt}
+use Rattle.on_disk.specs.Layout.{perSector, layoutOk, entryCount, sectionSize, sectionAt, dataAt, needed}
+use Rattle.on_disk.specs.Section.{Entry, unused, entryOf}
 use Rattle.model.specs.Journal.{sealed, sectionOf, greatestId, wholeIds, usedOf, replay}
 use Rattle.model.specs.Tag.{Tag}
 use Rattle.model.specs.Store.{homeStore, made, homeCount}
@@ -21,11 +21,11 @@ use Rattle.model.specs.Medium.{Medium, volumeIn}
 use Rattle.model.specs.World.{Live, off, on}
 use Rattle.model.proofs.Replays.{mentions, Clean, Durable, Pass, Midway, touch, noWrite, pass-begins, mid-touch, mid-ends, Frame}
 use Rattle.model.proofs.Journals.{every-replay, Every, writes, writeOfEntry, batchOf, front, sections-kept, top-kept, ids-kept, replay-kept}
-use Rattle.model.proofs.Addresses.{Ranged, data-high, tag-high, tag-sector}
+use Rattle.on_disk.proofs.Addresses.{Ranged, data-high, tag-high, tag-sector}
 use Rattle.model.proofs.Volumes.{part-bytes}
 use Rattle.model.specs.Guarantees.{Outside}
 use Rattle.model.proofs.Homes.{Home, home-length, home-outside, home-frame, home-data, home-done, home-front}
-use Rattle.model.specs.declared.Layout.{Layout}
+use Rattle.on_disk.specs.declared.Layout.{Layout}
 use Rattle.model.specs.declared.Phase.{Phase}
 use Rattle.model.specs.declared.Phase.the-variants.{Filling, Committing, WritingBack, Recovering}
 use Rattle.model.specs.declared.State.{State}

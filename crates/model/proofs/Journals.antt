@@ -13,16 +13,16 @@ use Rattle.octets.specs.Choice.{pick}
 use Rattle.octets.specs.Parts.{part}
 use Rattle.octets.proofs.Parts.{length-part, part-part}
 use Rattle.octets.specs.Sectors.{sectorAt}
-use Rattle.model.specs.Layout.{perSector, entryCount, sectionSize, sectionAt, base}
-use Rattle.model.specs.Section.{Entry, unused, idOf, entryOf, wholeId, greatestIn}
+use Rattle.on_disk.specs.Layout.{perSector, entryCount, sectionSize, sectionAt, base}
+use Rattle.on_disk.specs.Section.{Entry, unused, idOf, entryOf, wholeId, greatestIn}
 use Rattle.octets.specs.Lists.{allBelow, greatest, collect}
 use Rattle.model.specs.Journal.{sealed, sectionOf, greatestId, dueIds, Found, insert, ordered, wholeIds, Replayed, usedEntry, usedOf, replayIn, replay}
 use Rattle.model.specs.Ledger.{Write}
-use Rattle.model.proofs.Sections.{length-withId, id-withId, entry-stamped}
-use Rattle.model.proofs.Addresses.{and-both, section-order}
+use Rattle.on_disk.proofs.Sections.{length-withId, id-withId, entry-stamped}
+use Rattle.on_disk.proofs.Addresses.{and-both, section-order}
 use Rattle.model.proofs.Replays.{Which, isTrue, isFalse, which}
 use Rattle.model.proofs.Order.{ordered-cong, ordered-comes, ordered-goes}
-use Rattle.model.specs.declared.Layout.{Layout}
+use Rattle.on_disk.specs.declared.Layout.{Layout}
 
 -- ---- the greatest of some numbers
 

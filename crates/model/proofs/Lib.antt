@@ -1,8 +1,5 @@
 -- The laws, and the proof of demand 3.
-pub mod Addresses
-pub mod Geometry
 pub mod Volumes
-pub mod Sections
 pub mod Order
 pub mod Journals
 pub mod Replays

@@ -12,12 +12,12 @@ use Rattle.octets.specs.Answer.{Refusal, refused, refusal, refuse}
 use Rattle.octets.specs.Choice.{firstMet}
 use Rattle.octets.specs.Sectors.{sectorAt}
 use Rattle.octets.proofs.Parts.{length-part, length-patch}
-use Rattle.model.specs.declared.Layout.{Layout}
+use Rattle.on_disk.specs.declared.Layout.{Layout}
 use Rattle.model.specs.declared.Phase.{Phase}
 use Rattle.model.specs.declared.Phase.the-variants.{Filling, Committing, WritingBack, Recovering}
 use Rattle.model.specs.declared.State.{State}
-use Rattle.model.specs.Layout.{sectionSize, tagSector, tagOffset, needed}
-use Rattle.model.specs.Section.{Entry}
+use Rattle.on_disk.specs.Layout.{sectionSize, tagSector, tagOffset, needed}
+use Rattle.on_disk.specs.Section.{Entry}
 use Rattle.model.specs.Journal.{sectionFor, replay}
 use Rattle.model.specs.Store.{afterEffect, contentOf, homeStore, storeOf, RecoveryStep, storing, recoveryStepAt}
 use Rattle.model.specs.State.{passed, stateOk, volumeOk, stagingOk, sectorOk}
@@ -25,8 +25,8 @@ use Rattle.model.specs.Step.{recoveryRow, rangeRows, phaseStep, stepBy, 
 use Rattle.model.specs.JournalStep.{stagedEntry, commitStore, commitStep, homeStep, recoverAt}
 use Rattle.model.specs.StepResult.{StepResult}
 use Rattle.model.specs.NextStore.{nextStoreOf, storeNamed, Placed, Within, sectorNamed, sectorStored, StepStores}
-use Rattle.model.proofs.Addresses.{and-both, Ranged, ranged, data-high, tag-high, data-room, tag-room, tag-inside, section-low, base-room}
-use Rattle.model.proofs.Sections.{bytes-length, tag-length}
+use Rattle.on_disk.proofs.Addresses.{and-both, Ranged, ranged, data-high, tag-high, data-room, tag-room, tag-inside, section-low, base-room}
+use Rattle.on_disk.proofs.Sections.{bytes-length, tag-length}
 use Rattle.model.proofs.Journals.{length-sealed}
 use Rattle.model.proofs.Replays.{Which, isTrue, isFalse, which}
 use Rattle.model.proofs.Entries.{Complete, replay-complete, StepFor, step-every}

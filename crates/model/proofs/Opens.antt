@@ -14,11 +14,11 @@ use Rattle.octets.proofs.Choice.{passes}
 use Rattle.octets.specs.Parts.{same}
 use Rattle.octets.proofs.Numbers.{value-le}
 use Rattle.octets.proofs.Parts.{eq-same}
-use Rattle.model.specs.Layout.{sectionSize, needed, layoutOk}
-use Rattle.model.specs.Section.{emptySection}
+use Rattle.on_disk.specs.Layout.{sectionSize, needed, layoutOk}
+use Rattle.on_disk.specs.Section.{emptySection}
 use Rattle.octets.specs.Lists.{allBelow}
 use Rattle.model.specs.Journal.{greatestId, wholeIds, Replayed, replay}
-use Rattle.model.specs.Superblock.{superblockOf, layoutIn, superblockAt, superblockOk, isZero}
+use Rattle.on_disk.specs.Superblock.{superblockOf, layoutIn, superblockAt, superblockOk, isZero}
 use Rattle.model.specs.Store.{homeCount, stepsOf}
 use Rattle.model.specs.Tag.{Tag, Tags}
 use Rattle.model.specs.State.{passed, volumeLoanOk, stagingOk}
@@ -29,11 +29,11 @@ use Rattle.model.specs.Medium.{Medium, volumeIn}
 use Rattle.model.specs.World.{byOpen}
 use Rattle.model.proofs.Replays.{Which, isTrue, isFalse, which, pass-replays}
 use Rattle.model.proofs.Journals.{Every, writes, all-below}
-use Rattle.model.proofs.Addresses.{Ranged, base-room}
+use Rattle.on_disk.proofs.Addresses.{Ranged, base-room}
 use Rattle.model.proofs.Plans.{At, here, at-in, home-some}
 use Rattle.model.proofs.Invariant.{Premises, low-kept, replay-goods, Good, Disk, stopped, working, inFilling, inRecovering}
 use Rattle.model.proofs.Steps.{Leads, never, staged-empty}
-use Rattle.model.specs.declared.Layout.{Layout}
+use Rattle.on_disk.specs.declared.Layout.{Layout}
 use Rattle.model.specs.declared.Phase.the-variants.{Filling, Recovering}
 
 -- ---- the superblockAt is read back

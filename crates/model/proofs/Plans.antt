@@ -6,10 +6,10 @@ use native.Mathlib.Omega.{arith}
 use lib.ListN.{length, getD, length-append, length-map, List·getD-append, List·getD-map}
 use lib.Seq.{getD-append-add}
 use Rattle.octets.proofs.Tables.{length-tabulate, getD-tabulate}
-use Rattle.model.specs.Section.{Entry}
+use Rattle.on_disk.specs.Section.{Entry}
 use Rattle.model.specs.Journal.{Replayed}
 use Rattle.model.specs.Store.{mostHomeStores, homeCount, storeOf, storesOfEntry, entryStores, storesOf, storing, recoverySteps, stepsOf, noEntry, noStore}
-use Rattle.model.specs.declared.Layout.{Layout}
+use Rattle.on_disk.specs.declared.Layout.{Layout}
 
 pub length-stores : (g : Layout) (x : Replayed) → length (storesOfEntry g x) ≡ homeCount g (x .entry)
 length-stores g x = length-tabulate (homeCount g (x .entry)) (storeOf x)

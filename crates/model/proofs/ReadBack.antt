@@ -10,14 +10,14 @@ use lib.ListN.{length, getD, take}
 use lib.Seq.{take-suc, take-all, length-take-le}
 use borrow.Author.Tests.{eq-eqb, ne-eqb}
 use Rattle.octets.specs.Sectors.{sectorAt}
-use Rattle.model.specs.declared.Layout.{Layout}
-use Rattle.model.specs.Layout.{perSector, entryCount, sectionSize}
-use Rattle.model.specs.Section.{Entry, unused, idOf, entryOf, putEntry, wholeId, emptySection}
+use Rattle.on_disk.specs.declared.Layout.{Layout}
+use Rattle.on_disk.specs.Layout.{perSector, entryCount, sectionSize}
+use Rattle.on_disk.specs.Section.{Entry, unused, idOf, entryOf, putEntry, wholeId, emptySection}
 use Rattle.octets.specs.Lists.{collect}
 use Rattle.model.specs.Journal.{sealed, usedEntry, usedOf}
 use Rattle.model.specs.ReadBack.{Sized, AllSized, putBatch, sealedSection, numbered, ReadBack}
-use Rattle.model.proofs.Addresses.{ranged}
-use Rattle.model.proofs.Sections.{per-pos, length-putEntry, entryOf-put-same, entryOf-put-other, part-collect, length-empty, empty-unused}
+use Rattle.on_disk.proofs.Addresses.{ranged}
+use Rattle.on_disk.proofs.Sections.{per-pos, length-putEntry, entryOf-put-same, entryOf-put-other, part-collect, length-empty, empty-unused}
 use Rattle.model.proofs.Journals.{whole-all, length-sealed, id-sealed, entry-sealed}
 
 -- what stands past the end of a batch

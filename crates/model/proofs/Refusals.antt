@@ -12,7 +12,7 @@ use Rattle.model.specs.declared.FlushAnswer.{FlushAnswer}
 use Rattle.model.specs.declared.FlushAnswer.the-variants as flushing
 use Rattle.model.specs.declared.FormatAnswer.{FormatAnswer}
 use Rattle.model.specs.declared.FormatAnswer.the-variants as formatting
-use Rattle.model.specs.declared.Layout.{Layout}
+use Rattle.on_disk.specs.declared.Layout.{Layout}
 use Rattle.model.specs.declared.OpenAnswer.{OpenAnswer}
 use Rattle.model.specs.declared.OpenAnswer.the-variants as opening
 use Rattle.model.specs.declared.QueryAnswer.{QueryAnswer}

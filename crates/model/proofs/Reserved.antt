@@ -11,13 +11,13 @@ use Rattle.octets.specs.Answer.{taken, refused, refuse}
 use Rattle.octets.specs.Choice.{firstMet}
 use Rattle.octets.specs.Parts.{part, patch}
 use Rattle.octets.specs.Sectors.{sectorAt}
-use Rattle.model.specs.declared.Layout.{Layout}
+use Rattle.on_disk.specs.declared.Layout.{Layout}
 use Rattle.model.specs.declared.Phase.{Phase}
 use Rattle.model.specs.declared.Phase.the-variants.{Filling, Committing, WritingBack, Recovering}
 use Rattle.model.specs.declared.State.{State}
-use Rattle.model.specs.Layout.{mostSectors, sectionSize, sectionAt, base, dataAt, tagByte, tagSector, tagOffset}
-use Rattle.model.specs.Superblock.{superblockAt, layoutIn}
-use Rattle.model.specs.Section.{Entry, wholeId}
+use Rattle.on_disk.specs.Layout.{mostSectors, sectionSize, sectionAt, base, dataAt, tagByte, tagSector, tagOffset}
+use Rattle.on_disk.specs.Superblock.{superblockAt, layoutIn}
+use Rattle.on_disk.specs.Section.{Entry, wholeId}
 use Rattle.octets.specs.Lists.{allBelow, firstBelow}
 use Rattle.model.specs.Journal.{sectionOf, greatestId, sectionFor, wholeIds, replay}
 use Rattle.model.specs.Tag.{Tags, tagAt}

@@ -7,13 +7,13 @@ use lib.ListN.{length}
 use lib.Dec.{leb, ltb, eqb}
 use native.Mathlib.Omega.{arith}
 use borrow.Author.Tests.{eqb-true, eqb-false, leb-true, ltb-true, lt-ltb, le-ltb, not-true}
-use Rattle.model.proofs.Addresses.{and-both}
+use Rattle.on_disk.proofs.Addresses.{and-both}
 use Rattle.model.proofs.Steps.{never}
-use Rattle.model.specs.declared.Layout.{Layout}
+use Rattle.on_disk.specs.declared.Layout.{Layout}
 use Rattle.model.specs.declared.Phase.{Phase}
 use Rattle.model.specs.declared.Phase.the-variants.{Committing, WritingBack, Recovering}
 use Rattle.model.specs.declared.State.{State}
-use Rattle.model.specs.Layout.{entryCount, sectionSize, needed, layoutOk}
+use Rattle.on_disk.specs.Layout.{entryCount, sectionSize, needed, layoutOk}
 use Rattle.model.specs.Journal.{replay}
 use Rattle.model.specs.Store.{mostHomeStores, stepsOf}
 use Rattle.model.specs.State.{lastId, placeOk, stateOk, stagingOk, volumeLoanOk, volumeOk, replayOk}

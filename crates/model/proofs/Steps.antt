@@ -12,8 +12,8 @@ use lib.Seq.{getD-at}
 use lib.Dec.{eqb}
 use borrow.Author.Tests.{eq-eqb, ne-eqb, lt-ltb, le-ltb, le-leb, lt-leb}
 use Rattle.octets.specs.Answer.{taken}
-use Rattle.model.specs.Layout.{entryCount, sectionSize, sectionAt, needed}
-use Rattle.model.specs.Section.{Entry, entryOf, emptySection}
+use Rattle.on_disk.specs.Layout.{entryCount, sectionSize, sectionAt, needed}
+use Rattle.on_disk.specs.Section.{Entry, entryOf, emptySection}
 use Rattle.model.specs.Journal.{sealed, greatestId, Replayed, replay}
 use Rattle.model.specs.Tag.{Tag}
 use Rattle.model.specs.Store.{one, afterEffect, homeStore, made, stepsOf, homeCount, mostHomeStores, noEntry}
@@ -31,9 +31,9 @@ use Rattle.model.proofs.Journals.{every-get, writes, length-writes, wri
 use Rattle.model.proofs.Homes.{Home}
 use Rattle.model.proofs.Plans.{At, at-low, at-half, at-get, at-on, at-next, at-last, at-in, home-some, home-most}
 use Rattle.model.proofs.Invariant.{Premises, replay-goods, stateAt, Good, Disk, Staged, Progress, AtFilling, AtCommit, AtHome, AtRecover, Lives, working, inFilling, inCommitting, inWritingBack, inRecovering, disk-home, Advance, further, arrived, advance, replays, tops}
-use Rattle.model.proofs.Sections.{length-empty, empty-unused}
+use Rattle.on_disk.proofs.Sections.{length-empty, empty-unused}
 use Rattle.model.proofs.Committing.{commit-goes, seal-disk, seal-ends}
-use Rattle.model.specs.declared.Layout.{Layout}
+use Rattle.on_disk.specs.declared.Layout.{Layout}
 use Rattle.model.specs.declared.Phase.{Phase}
 use Rattle.model.specs.declared.Phase.the-variants.{Filling, Committing, WritingBack, Recovering}
 use Rattle.model.specs.declared.State.{State}

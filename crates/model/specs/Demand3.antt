@@ -12,9 +12,9 @@ use mathlib.Core.Path.{_≡_}
 use mathlib.Core.List.{List}
 use lib.ListN.{length, getD}
 use Rattle.octets.specs.Sectors.{sectorSize, sectorAt}
-use Rattle.model.specs.declared.Layout.{Layout}
+use Rattle.on_disk.specs.declared.Layout.{Layout}
 use Rattle.model.specs.declared.State.{State}
-use Rattle.model.specs.Layout.{superblockSize, dataAt}
+use Rattle.on_disk.specs.Layout.{superblockSize, dataAt}
 use Rattle.model.specs.Tag.{Tags, TagsOf, tagOf, tagAt}
 use Rattle.model.specs.State.{passed}
 use Rattle.model.specs.Format.{formatOf}

@@ -13,9 +13,9 @@ use lib.Dec.{ltb}
 use Rattle.octets.specs.Answer.{taken, refused, refuse}
 use Rattle.octets.specs.Choice.{firstMet}
 use Rattle.octets.specs.Sectors.{sectorSize}
-use Rattle.model.specs.declared.Layout.{Layout}
-use Rattle.model.specs.Layout.{sectionSize, runLength, tagArea, needed, layoutOk}
-use Rattle.model.specs.Superblock.{superblockOf, superblockAt, isZero}
+use Rattle.on_disk.specs.declared.Layout.{Layout}
+use Rattle.on_disk.specs.Layout.{sectionSize, runLength, tagArea, needed, layoutOk}
+use Rattle.on_disk.specs.Superblock.{superblockOf, superblockAt, isZero}
 use Rattle.octets.specs.Lists.{collect}
 use Rattle.model.specs.Tag.{Tag, Tags}
 use Rattle.model.specs.State.{Verdict, passed, volumeLoanOk}

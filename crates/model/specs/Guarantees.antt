@@ -14,12 +14,12 @@ use lib.ListN.{length, getD, replicate}
 use lib.Dec.{eqb}
 use Rattle.octets.specs.Answer.{taken, isTaken}
 use Rattle.octets.specs.Sectors.{sectorSize, sectorAt}
-use Rattle.model.specs.declared.Layout.{Layout}
+use Rattle.on_disk.specs.declared.Layout.{Layout}
 use Rattle.model.specs.declared.Phase.the-variants.{Filling}
 use Rattle.model.specs.declared.State.{State}
-use Rattle.model.specs.Layout.{sectionSize, sectionAt, base, dataAt, tagByte, needed}
-use Rattle.model.specs.Superblock.{superblockAt, layoutIn}
-use Rattle.model.specs.Section.{emptySection}
+use Rattle.on_disk.specs.Layout.{sectionSize, sectionAt, base, dataAt, tagByte, needed}
+use Rattle.on_disk.specs.Superblock.{superblockAt, layoutIn}
+use Rattle.on_disk.specs.Section.{emptySection}
 use Rattle.model.specs.Tag.{Tags, TagsOf, tagOf}
 use Rattle.model.specs.State.{passed}
 use Rattle.model.specs.Format.{formatOf}

@@ -11,12 +11,12 @@ use mathlib.Core.Bool.{Bool, _&&_}
 use mathlib.Core.List.{List}
 use lib.Dec.{ltb, eqb}
 use Rattle.octets.specs.Choice.{pick}
-use Rattle.model.specs.declared.Layout.{Layout}
+use Rattle.on_disk.specs.declared.Layout.{Layout}
 use Rattle.model.specs.declared.Phase.{Phase}
 use Rattle.model.specs.declared.Phase.the-variants.{Committing, WritingBack, Recovering}
 use Rattle.model.specs.declared.State.{State}
-use Rattle.model.specs.Layout.{sectionSize, sectionAt}
-use Rattle.model.specs.Section.{Entry, entryOf, emptySection}
+use Rattle.on_disk.specs.Layout.{sectionSize, sectionAt}
+use Rattle.on_disk.specs.Section.{Entry, entryOf, emptySection}
 use Rattle.model.specs.Journal.{sectionFor, sealed, replay}
 use Rattle.model.specs.Store.{Store, homeCount, homeStore, storeOf, RecoveryStep, storing, stepsOf, recoveryStepAt}
 use Rattle.model.specs.StepResult.{StepResult, stored, acknowledged, filled}

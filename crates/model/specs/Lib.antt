@@ -1,10 +1,6 @@
--- The specification of the volume, in the order of docs/RULES.md: sizes, tags, sections, the journal, the calls, the ledger and demand 3 (R5). Query,
--- NextStore and Advance are calls that no rule has; Geometry, Reserved, FirstRule, ReadBack and Guarantees state what holds beside demand 3.
-pub mod Layout
-pub mod Geometry
+-- The specification of the volume over its on-disk format, in the order of docs/RULES.md: tags, the journal, the calls, the ledger and demand 3 (R5). Query,
+-- NextStore and Advance are calls that no rule has; Reserved, FirstRule, ReadBack and Guarantees state what holds beside demand 3.
 pub mod Tag
-pub mod Superblock
-pub mod Section
 pub mod Journal
 pub mod Store
 pub mod Refusal

@@ -17,10 +17,10 @@ use Rattle.octets.specs.Choice.{firstMet}
 use Rattle.octets.specs.Sectors.{sectorSize, putSector}
 use Rattle.model.specs.declared.Done.{Done}
 use Rattle.model.specs.declared.Done.the-variants.{Idle, Stored}
-use Rattle.model.specs.declared.Layout.{Layout}
+use Rattle.on_disk.specs.declared.Layout.{Layout}
 use Rattle.model.specs.declared.Says.{Says}
 use Rattle.model.specs.declared.State.{State}
-use Rattle.model.specs.Layout.{superblockSize, needed}
+use Rattle.on_disk.specs.Layout.{superblockSize, needed}
 use Rattle.model.specs.Store.{Store, Effect, none, one, afterEffect, contentOf}
 use Rattle.model.specs.State.{passed, sectorOk}
 use Rattle.model.specs.Step.{stepRows, stepBy, stepOf}

@@ -17,13 +17,13 @@ use Rattle.octets.specs.Answer.{Answer, taken, refused, refuse}
 use Rattle.octets.specs.Choice.{pick, firstMet}
 use Rattle.octets.specs.Parts.{same}
 use Rattle.octets.specs.Sectors.{sectorSize}
-use Rattle.model.specs.declared.Layout.{Layout}
+use Rattle.on_disk.specs.declared.Layout.{Layout}
 use Rattle.model.specs.declared.Phase.{Phase}
 use Rattle.model.specs.declared.Phase.the-variants.{Filling, Recovering}
 use Rattle.model.specs.declared.State.{State}
-use Rattle.model.specs.Layout.{mostReserved, superblockSize, needed}
-use Rattle.model.specs.Superblock.{superblockAt, layoutIn, isZero, superblockOk}
-use Rattle.model.specs.Section.{emptySection}
+use Rattle.on_disk.specs.Layout.{mostReserved, superblockSize, needed}
+use Rattle.on_disk.specs.Superblock.{superblockAt, layoutIn, isZero, superblockOk}
+use Rattle.on_disk.specs.Section.{emptySection}
 use Rattle.octets.specs.Lists.{allBelow, firstBelow}
 use Rattle.model.specs.Journal.{greatestId, sectionFor, wholeIds, Replayed, replay}
 use Rattle.model.specs.Tag.{Tag, Tags}

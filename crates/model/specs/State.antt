@@ -17,11 +17,11 @@ use lib.ListN.{length}
 use lib.Dec.{leb, ltb, eqb}
 use Rattle.octets.specs.Answer.{Answer, taken}
 use Rattle.octets.specs.Sectors.{sectorSize}
-use Rattle.model.specs.declared.Layout.{Layout}
+use Rattle.on_disk.specs.declared.Layout.{Layout}
 use Rattle.model.specs.declared.Phase.{Phase}
 use Rattle.model.specs.declared.Phase.the-variants.{Filling, Committing, WritingBack, Recovering}
 use Rattle.model.specs.declared.State.{State}
-use Rattle.model.specs.Layout.{mostSectors, entryCount, sectionSize, needed, layoutOk}
+use Rattle.on_disk.specs.Layout.{mostSectors, entryCount, sectionSize, needed, layoutOk}
 use Rattle.model.specs.Journal.{replay}
 use Rattle.model.specs.Store.{mostHomeStores, stepsOf}
 

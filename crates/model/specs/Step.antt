@@ -10,7 +10,7 @@ use lib.Dec.{leb}
 use Rattle.octets.specs.Answer.{taken, refused, refuse}
 use Rattle.octets.specs.Choice.{firstMet}
 use Rattle.model.specs.declared.Done.the-variants.{Idle}
-use Rattle.model.specs.declared.Layout.{Layout}
+use Rattle.on_disk.specs.declared.Layout.{Layout}
 use Rattle.model.specs.declared.Phase.{Phase}
 use Rattle.model.specs.declared.Phase.the-variants as phases
 use Rattle.model.specs.declared.Says.the-variants as says

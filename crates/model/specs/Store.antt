@@ -15,9 +15,9 @@ use mathlib.Core.List.{List, [], _∷_, _++_, map}
 use lib.ListN.{length, getD}
 use Rattle.octets.specs.Parts.{patch}
 use Rattle.octets.specs.Sectors.{sectorAt, putSector}
-use Rattle.model.specs.declared.Layout.{Layout}
-use Rattle.model.specs.Layout.{dataAt, tagSector, tagOffset}
-use Rattle.model.specs.Section.{Entry}
+use Rattle.on_disk.specs.declared.Layout.{Layout}
+use Rattle.on_disk.specs.Layout.{dataAt, tagSector, tagOffset}
+use Rattle.on_disk.specs.Section.{Entry}
 use Rattle.octets.specs.Tables.{tabulate}
 use Rattle.model.specs.Journal.{Replayed, replay}
 

@@ -15,7 +15,7 @@ use mathlib.Core.Bool.{Bool, true, false}
 use mathlib.Core.List.{List, [], _∷_}
 use lib.Dec.{eqb}
 use Rattle.octets.specs.Answer.{Answer, taken, refused, isTaken}
-use Rattle.model.specs.declared.Layout.{Layout}
+use Rattle.on_disk.specs.declared.Layout.{Layout}
 use Rattle.model.specs.declared.State.{State}
 use Rattle.model.specs.Tag.{Tags}
 use Rattle.model.specs.Store.{contentOf}

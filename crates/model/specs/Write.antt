@@ -9,8 +9,8 @@ use lib.Dec.{leb}
 use Rattle.octets.specs.Answer.{taken, refused, refuse}
 use Rattle.octets.specs.Choice.{firstMet}
 use Rattle.model.specs.declared.State.{State}
-use Rattle.model.specs.Layout.{entryCount}
-use Rattle.model.specs.Section.{Entry, putEntry}
+use Rattle.on_disk.specs.Layout.{entryCount}
+use Rattle.on_disk.specs.Section.{Entry, putEntry}
 use Rattle.model.specs.Tag.{Tags}
 use Rattle.model.specs.State.{Verdict, passed, stateOk, stagingOk, sectorOk, isFilling}
 

@@ -1,24 +1,11 @@
-// The volume's types: R25, R52, R71.
+// The volume's types: R52, R71.
 //
-// What each call means, over any tag function, is defined in specs/, one file to a call; the ledger and demand 3 stand there too. The code that meets
-// these definitions is in the crates above.
+// What each call means, over any tag function, is defined in specs/, one file to a call; the ledger and demand 3 stand there too. The on-disk format is in
+// the crate below; the code that meets these definitions is in the crates above.
+use on_disk::Layout;
 ghost use mathlib.Core.Path.{_≡_};
 ghost use Rattle.model.specs.Refusal.{refusalOf, stepAnswer};
 ghost use Rattle.model.specs.StepResult.{stepAcknowledges, stepSettles};
-
-// Where everything lies on a volume. Any numbers may be handed in; `layoutOk` of specs/Layout.antt says which are in range.
-pub struct Layout {
-    // r, the sectors before the superblock
-    pub reserved: usize,
-    // the base-two logarithm of N, the number of data sectors in a run
-    pub shift: usize,
-    // T, the bytes of a tag
-    pub width: usize,
-    // S, the sections of the journal
-    pub sections: usize,
-    // P, the data sectors that the volume provides
-    pub provided: usize,
-}
 
 // What the volume is doing, and the place it has come to.
 pub enum Phase {

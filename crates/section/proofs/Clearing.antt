@@ -11,10 +11,10 @@ use borrow.Author.Tests.{lt-ltb, le-ltb}
 use Rattle.octets.specs.Numbers.{le}
 use Rattle.octets.specs.Parts.{part, patch}
 use Rattle.octets.proofs.Parts.{length-patch, take-patch, drop-replicate}
-use Rattle.model.specs.Layout.{entrySize, perSector}
-use Rattle.model.specs.Section.{unused, emptyEntry, emptySector}
+use Rattle.on_disk.specs.Layout.{entrySize, perSector}
+use Rattle.on_disk.specs.Section.{unused, emptyEntry, emptySector}
 use Rattle.octets.specs.Lists.{collect}
-use Rattle.model.proofs.Sections.{length-collect}
+use Rattle.on_disk.proofs.Sections.{length-collect}
 
 -- a patch that starts where the first of two lists ends
 patch-behind : (a b x : List ℕ) (at : ℕ) → length a ≡ at → patch (a ++ b) at x ≡ a ++ (x ++ drop (length x) b)

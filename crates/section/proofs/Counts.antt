@@ -9,12 +9,12 @@ use native.Mathlib.Omega.{arith}
 use lib.ListN.{length, getD, length-append, List·getD-append}
 use lib.Seq.{getD-append-add}
 use borrow.Author.Tests.{eq-eqb, ne-eqb}
-use Rattle.model.specs.Layout.{entryCount}
-use Rattle.model.specs.Section.{Entry, unused, entryOf}
+use Rattle.on_disk.specs.Layout.{entryCount}
+use Rattle.on_disk.specs.Section.{Entry, unused, entryOf}
 use Rattle.octets.specs.Lists.{collect}
 use Rattle.model.specs.Journal.{Replayed, usedEntry}
 use Rattle.model.specs.Store.{mostHomeStores, homeCount, EntryStore, storeOf, storesOfEntry, entryStores, noStore}
-use Rattle.model.specs.declared.Layout.{Layout}
+use Rattle.on_disk.specs.declared.Layout.{Layout}
 use Rattle.model.proofs.Plans.{length-stores, get-stores, home-most}
 use Rattle.section.specs.Locations.{Locates, storesBelow, storesIn, storeNumber}
 use Rattle.section.specs.declared.Location.{Location}

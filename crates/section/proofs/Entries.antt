@@ -11,9 +11,9 @@ use Rattle.octets.specs.Sectors.{sectorAt, putSector}
 use Rattle.octets.proofs.Numbers.{length-le}
 use Rattle.octets.proofs.Parts.{length-part, length-patch, part-part, patch-join, patch-all}
 use Rattle.octets.proofs.Sectors.{put-inside, sector-put-other}
-use Rattle.model.specs.Layout.{entrySize, perSector, entryCount, sectionSize}
-use Rattle.model.specs.Section.{idOf, metadataOf, entryOffset, entryOf, putEntry}
-use Rattle.model.proofs.Sections.{per-pos, entry-fits, entry-low}
+use Rattle.on_disk.specs.Layout.{entrySize, perSector, entryCount, sectionSize}
+use Rattle.on_disk.specs.Section.{idOf, metadataOf, entryOffset, entryOf, putEntry}
+use Rattle.on_disk.proofs.Sections.{per-pos, entry-fits, entry-low}
 
 pub id-part : (sec : List ℕ) (j : ℕ) → value (part sec (j * 512 + 504) 8) ≡ idOf (sectorAt sec j)
 id-part sec j = ap value (sym (part-part sec (j * 512) 512 504 8 (omega arith)))

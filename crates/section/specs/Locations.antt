@@ -13,12 +13,12 @@ use mathlib.Core.List.{List}
 use mathlib.Core.Logic.{_≢_}
 use mathlib.Core.Path.{_≡_}
 use lib.ListN.{length, getD}
-use Rattle.model.specs.Layout.{entryCount}
-use Rattle.model.specs.Section.{unused, entryOf}
+use Rattle.on_disk.specs.Layout.{entryCount}
+use Rattle.on_disk.specs.Section.{unused, entryOf}
 use Rattle.octets.specs.Lists.{collect}
 use Rattle.model.specs.Journal.{usedEntry, usedOf}
 use Rattle.model.specs.Store.{homeCount, EntryStore, storeOf, entryStores, noStore}
-use Rattle.model.specs.declared.Layout.{Layout}
+use Rattle.on_disk.specs.declared.Layout.{Layout}
 use Rattle.section.specs.declared.Location.{Location}
 
 -- ---- a store of the replay

@@ -2,14 +2,14 @@
 // of a volume. Its functions are for the crates of this repository: T is at most 32, and an entry is one of the section's E, which callers show.
 use layout::METADATA_SIZE;
 use layout::SECTOR_SIZE;
-use model::Layout;
+use on_disk::Layout;
 ghost use mathlib.Core.Bool.{true};
 ghost use mathlib.Core.Path.{_≡_};
 ghost use Prim.Native.Nat.{ℕ, _+_, _*_, _≤_, _<_};
 ghost use lib.ListN.{length, take};
 ghost use Rattle.octets.specs.Sectors.{sectorSize, sectorAt};
-ghost use Rattle.model.specs.Layout.{entrySize, entryCount, sectionSize, layoutOk};
-ghost use Rattle.model.specs.Section.{idOf, metadataOf, entryOffset, entryOf, putEntry, greatestIn, emptySector, emptySection};
+ghost use Rattle.on_disk.specs.Layout.{entrySize, entryCount, sectionSize, layoutOk};
+ghost use Rattle.on_disk.specs.Section.{idOf, metadataOf, entryOffset, entryOf, putEntry, greatestIn, emptySector, emptySection};
 ghost use Rattle.model.specs.Journal.{usedOf};
 ghost use Rattle.model.specs.Store.{storesOf};
 ghost use Rattle.section.specs.Locations.{FoundFrom};

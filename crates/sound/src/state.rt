@@ -1,15 +1,15 @@
 // What is tested of loans and states: the model's specs/State.antt.
 use layout::MOST_SECTIONS;
 use layout::SECTOR_SIZE;
-use model::Layout;
 use model::Phase;
 use model::State;
+use on_disk::Layout;
 ghost use mathlib.Core.Bool.{true, _&&_};
 ghost use mathlib.Core.Path.{_≡_};
 ghost use Prim.Native.Nat.{_*_, _≤_};
 ghost use lib.Dec.{leb};
 ghost use lib.ListN.{length};
-ghost use Rattle.model.specs.Layout.{needed, layoutOk};
+ghost use Rattle.on_disk.specs.Layout.{needed, layoutOk};
 ghost use Rattle.model.specs.Journal.{replay};
 ghost use Rattle.model.specs.Store.{stepsOf};
 ghost use Rattle.model.specs.State.{placeOk, stateOk, stagingOk, volumeLoanOk, volumeOk, isFilling, isRecovering};

@@ -11,15 +11,15 @@ use Rattle.octets.specs.Parts.{part, patch}
 use Rattle.octets.specs.Sectors.{sectorAt}
 use Rattle.octets.proofs.Numbers.{length-le}
 use Rattle.octets.proofs.Parts.{length-part, part-all, part-patch-same, patch-all, patch-join}
-use Rattle.model.specs.declared.Layout.{Layout}
-use Rattle.model.specs.Layout.{entryCount, sectionSize, dataAt, tagByte, tagSector, tagOffset, needed, layoutOk}
-use Rattle.model.specs.Section.{Entry, entryOf}
+use Rattle.on_disk.specs.declared.Layout.{Layout}
+use Rattle.on_disk.specs.Layout.{entryCount, sectionSize, dataAt, tagByte, tagSector, tagOffset, needed, layoutOk}
+use Rattle.on_disk.specs.Section.{Entry, entryOf}
 use Rattle.model.specs.Journal.{sealed}
 use Rattle.model.specs.Store.{homeStore}
 use Rattle.model.specs.Tag.{tagOf}
-use Rattle.model.proofs.Addresses.{ranged, data-room, tag-room, tag-inside, tag-sector}
+use Rattle.on_disk.proofs.Addresses.{ranged, data-room, tag-room, tag-inside, tag-sector}
 use Rattle.model.proofs.Homes.{tag-store}
-use Rattle.model.proofs.Sections.{bytes-length, tag-length}
+use Rattle.on_disk.proofs.Sections.{bytes-length, tag-length}
 use Rattle.layout.proofs.Sizes.{width-high}
 use Rattle.stores.specs.Changes.{Changes}
 

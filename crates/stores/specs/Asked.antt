@@ -8,10 +8,10 @@ use mathlib.Core.List.{List}
 use mathlib.Core.Path.{_≡_}
 use lib.ListN.{length}
 use Rattle.octets.specs.Sectors.{sectorSize}
-use Rattle.model.specs.Layout.{entryCount, sectionSize, layoutOk}
-use Rattle.model.specs.Section.{entryOf}
+use Rattle.on_disk.specs.Layout.{entryCount, sectionSize, layoutOk}
+use Rattle.on_disk.specs.Section.{entryOf}
 use Rattle.model.specs.Store.{homeCount}
-use Rattle.model.specs.declared.Layout.{Layout}
+use Rattle.on_disk.specs.declared.Layout.{Layout}
 use Rattle.model.specs.declared.State.{State}
 
 pub record SectorOfCommit (s : State) (st : List ℕ) (j : ℕ) : Type 0 where

@@ -1,13 +1,13 @@
 // The bytes that a store changes: of a data sector all, of a sector with tags one tag. To store them alone leaves the same volume, and moves less. For the
 // crates of this repository, as the stores themselves.
 use layout::SECTOR_SIZE;
-use model::Layout;
+use on_disk::Layout;
 ghost use mathlib.Core.List.{List};
 ghost use mathlib.Core.Path.{_≡_};
 ghost use Prim.Native.Nat.{ℕ, _*_, _≤_};
 ghost use lib.ListN.{length};
-ghost use Rattle.model.specs.Layout.{needed};
-ghost use Rattle.model.specs.Section.{entryOf};
+ghost use Rattle.on_disk.specs.Layout.{needed};
+ghost use Rattle.on_disk.specs.Section.{entryOf};
 ghost use Rattle.model.specs.Store.{homeStore};
 ghost use Rattle.stores.specs.Asked.{StoreOfEntry};
 ghost use Rattle.stores.specs.Changes.{Changes};

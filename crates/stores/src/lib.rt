@@ -6,8 +6,8 @@
 pub mod changes;
 
 use layout::SECTOR_SIZE;
-use model::Layout;
 use model::State;
+use on_disk::Layout;
 use section::ID_AT;
 use section::NUMBER_SIZE;
 ghost use mathlib.Core.Bool.{true};
@@ -17,8 +17,8 @@ ghost use Prim.Native.Nat.{ℕ, _*_, _≤_, _<_};
 ghost use lib.ListN.{length};
 ghost use Rattle.octets.specs.Parts.{patch};
 ghost use Rattle.octets.specs.Sectors.{sectorAt};
-ghost use Rattle.model.specs.Layout.{tagSector, tagOffset, needed, layoutOk};
-ghost use Rattle.model.specs.Section.{entryOf};
+ghost use Rattle.on_disk.specs.Layout.{tagSector, tagOffset, needed, layoutOk};
+ghost use Rattle.on_disk.specs.Section.{entryOf};
 ghost use Rattle.model.specs.Store.{homeStore};
 ghost use Rattle.model.specs.JournalStep.{commitStore};
 ghost use Rattle.stores.specs.Asked.{SectorOfCommit, StoreOfEntry};

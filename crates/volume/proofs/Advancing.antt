@@ -13,14 +13,14 @@ use Rattle.octets.specs.Choice.{pick}
 use Rattle.octets.specs.Parts.{part, patch}
 use Rattle.octets.proofs.Parts.{length-part}
 use Rattle.model.specs.declared.Advanced.{Advanced}
-use Rattle.model.specs.declared.Layout.{Layout}
+use Rattle.on_disk.specs.declared.Layout.{Layout}
 use Rattle.model.specs.declared.Phase.{Phase}
 use Rattle.model.specs.declared.Phase.the-variants.{Recovering}
 use Rattle.model.specs.declared.State.{State}
 use Rattle.model.specs.declared.Stepped.{Stepped}
 use Rattle.model.specs.Refusal.{stepAnswer}
-use Rattle.model.specs.Layout.{mostSectors, entryCount, sectionSize, sectionAt, needed, layoutOk}
-use Rattle.model.specs.Section.{Entry, entryOf}
+use Rattle.on_disk.specs.Layout.{mostSectors, entryCount, sectionSize, sectionAt, needed, layoutOk}
+use Rattle.on_disk.specs.Section.{Entry, entryOf}
 use Rattle.model.specs.Journal.{sectionOf, replay}
 use Rattle.model.specs.Store.{made, homeCount, homeStore, stepsOf}
 use Rattle.model.specs.Tag.{tagOf}
@@ -28,9 +28,9 @@ use Rattle.model.specs.State.{placeOk, volumeLoanOk, stateOk, volumeOk, staging
 use Rattle.model.specs.Step.{stepOf}
 use Rattle.model.specs.StepResult.{stepAcknowledges}
 use Rattle.model.specs.Advance.{AdvanceResult, doneIn, oneMore, advanceFrom}
-use Rattle.model.proofs.Addresses.{ranged}
+use Rattle.on_disk.proofs.Addresses.{ranged}
 use Rattle.model.proofs.Advances.{all-same, advance-more}
-use Rattle.model.proofs.Sections.{bytes-length, tag-length}
+use Rattle.on_disk.proofs.Sections.{bytes-length, tag-length}
 use Rattle.model.proofs.Homes.{home-length, home-front}
 use Rattle.model.proofs.Journals.{front}
 use Rattle.section.specs.declared.Location.{Location}

@@ -10,7 +10,7 @@ use mathlib.Core.Path.{_≡_}
 use lib.Dec.{leb}
 use lib.ListN.{length}
 use Rattle.octets.specs.Choice.{pick}
-use Rattle.model.specs.Layout.{needed}
+use Rattle.on_disk.specs.Layout.{needed}
 use Rattle.model.specs.State.{stateOk, volumeLoanOk}
 use Rattle.model.specs.Refusal.{stepAnswer}
 use Rattle.model.specs.StepResult.{stepAcknowledges}

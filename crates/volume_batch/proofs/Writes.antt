@@ -12,8 +12,8 @@ use Rattle.model.specs.declared.Refusal.the-variants.{Malformed, NotNow, Range,
 use Rattle.model.specs.declared.State.{State}
 use Rattle.model.specs.declared.WriteAnswer.the-variants.{Taken, Refused}
 use Rattle.model.specs.declared.Written.{Written}
-use Rattle.model.specs.Layout.{entryCount}
-use Rattle.model.specs.Section.{putEntry}
+use Rattle.on_disk.specs.Layout.{entryCount}
+use Rattle.on_disk.specs.Section.{putEntry}
 use Rattle.model.specs.Tag.{Tags}
 use Rattle.model.specs.Refusal.{refusalOf}
 use Rattle.model.specs.State.{stateOk, stagingOk, isFilling}

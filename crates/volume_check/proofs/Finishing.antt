@@ -16,14 +16,14 @@ use Rattle.octets.specs.Choice.{pick, firstMet}
 use Rattle.octets.specs.Parts.{same}
 use Rattle.octets.specs.Sectors.{sectorAt}
 use Rattle.octets.proofs.Choice.{Unmet, NoneAnswers, passes, unmet, met}
-use Rattle.model.specs.declared.Layout.{Layout}
+use Rattle.on_disk.specs.declared.Layout.{Layout}
 use Rattle.model.specs.declared.Phase.{Phase}
 use Rattle.model.specs.declared.Phase.the-variants.{Filling, Recovering}
 use Rattle.model.specs.declared.State.{State}
-use Rattle.model.specs.Layout.{entryCount, sectionSize, dataAt, needed, layoutOk}
-use Rattle.model.specs.Section.{emptySection}
+use Rattle.on_disk.specs.Layout.{entryCount, sectionSize, dataAt, needed, layoutOk}
+use Rattle.on_disk.specs.Section.{emptySection}
 use Rattle.model.specs.Journal.{greatestId, sectionOf, Replayed, replay}
-use Rattle.model.specs.Superblock.{superblockAt, layoutIn}
+use Rattle.on_disk.specs.Superblock.{superblockAt, layoutIn}
 use Rattle.model.specs.Store.{made, homeCount, homeStore, storeOf, storesOfEntry, entryStores, storesOf, RecoveryStep, storing, recoverySteps, stepsOf, noStore, recoveryStepAt}
 use Rattle.model.specs.Tag.{Tag, Tags, tagOf, tagAt}
 use Rattle.model.specs.State.{Verdict, passed, placeOk, replayOk, volumeLoanOk, stateOk, volumeOk, stagingOk, isFilling}
@@ -33,13 +33,13 @@ use Rattle.model.specs.JournalStep.{homeStep, recoverAt}
 use Rattle.model.specs.StepResult.{StepResult}
 use Rattle.model.specs.Read.{ReadResult, readBy, readOf}
 use Rattle.model.specs.Advance.{AdvanceResult, noStep, stepMade, oneMore, advanceFrom, advanceOf}
-use Rattle.model.proofs.Addresses.{Ranged, ranged}
+use Rattle.on_disk.proofs.Addresses.{Ranged, ranged}
 use Rattle.model.proofs.Homes.{home-length, home-front}
 use Rattle.model.proofs.Invariant.{stateAt}
 use Rattle.model.proofs.Journals.{Every, front, replay-kept}
 use Rattle.model.proofs.Plans.{length-stores, home-two, steps-stores}
 use Rattle.model.proofs.Entries.{Complete, replay-complete, StepFor, step-every}
-use Rattle.model.proofs.Sections.{per-pos, length-empty}
+use Rattle.on_disk.proofs.Sections.{per-pos, length-empty}
 use Rattle.layout.proofs.Sizes.{width-high}
 use Rattle.volume_open.proofs.Queries.{valid-layout}
 use Rattle.volume_step.proofs.Steps.{in-phase}

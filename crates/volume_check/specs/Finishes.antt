@@ -17,7 +17,7 @@ use Rattle.octets.specs.Parts.{same}
 use Rattle.octets.specs.Sectors.{sectorAt}
 use Rattle.model.specs.declared.Phase.the-variants.{Filling}
 use Rattle.model.specs.declared.State.{State}
-use Rattle.model.specs.Layout.{dataAt}
+use Rattle.on_disk.specs.Layout.{dataAt}
 use Rattle.model.specs.Journal.{replay}
 use Rattle.model.specs.Tag.{Tags, tagOf, tagAt}
 use Rattle.model.specs.State.{isFilling}

@@ -1,13 +1,13 @@
 // The volume's calls as the examples make them, on one layout and one logical sector.
 use crate::report;
 use model::Done;
-use model::Layout;
 use model::OpenAnswer;
 use model::Phase;
 use model::ReadAnswer;
 use model::State;
 use model::StepAnswer;
 use model::Written;
+use on_disk::Layout;
 use volume::SECTOR_SIZE;
 
 // The logical sector that is written and read.

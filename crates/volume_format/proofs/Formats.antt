@@ -16,16 +16,16 @@ use Rattle.octets.specs.Sectors.{sectorSize}
 use Rattle.octets.proofs.Parts.{patch-join}
 use Rattle.digest.specs.Sha256.{sha256}
 use Rattle.digest.specs.Sha256.Promise.{length-sha256}
-use Rattle.model.specs.declared.Layout.{Layout}
-use Rattle.model.specs.Layout.{mostProvided, sectionSize, sectionAt, base, runLength, tagArea, needed, layoutOk}
-use Rattle.model.specs.Superblock.{superblockOf, superblockAt, isZero}
+use Rattle.on_disk.specs.declared.Layout.{Layout}
+use Rattle.on_disk.specs.Layout.{mostProvided, sectionSize, sectionAt, base, runLength, tagArea, needed, layoutOk}
+use Rattle.on_disk.specs.Superblock.{superblockOf, superblockAt, isZero}
 use Rattle.model.specs.State.{passed, volumeLoanOk}
-use Rattle.model.proofs.Addresses.{Ranged, ranged, base-room}
+use Rattle.on_disk.proofs.Addresses.{Ranged, ranged, base-room}
 use Rattle.model.proofs.Formats.{super-length}
 use Rattle.octets.specs.Lists.{collect}
 use Rattle.model.specs.Tag.{Tags, tagOf}
 use Rattle.model.specs.Format.{zeros, freshTags, freshRun, lastRun, lastLength, freshVolume, formatOf}
-use Rattle.model.proofs.Sections.{length-collect}
+use Rattle.on_disk.proofs.Sections.{length-collect}
 use Rattle.layout.proofs.Sizes.{width-high, provided-high, run-low, run-high}
 
 -- chunk i of n lies inside all of them

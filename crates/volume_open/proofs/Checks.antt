@@ -17,12 +17,12 @@ use Rattle.octets.specs.Choice.{pick}
 use Rattle.octets.specs.Numbers.{le}
 use Rattle.octets.specs.Parts.{part, same}
 use Rattle.digest.specs.Sha256.{sha256}
-use Rattle.model.specs.declared.Layout.{Layout}
+use Rattle.on_disk.specs.declared.Layout.{Layout}
 use Rattle.model.specs.declared.Refusal.{Refusal}
-use Rattle.model.specs.Section.{Entry, unused}
+use Rattle.on_disk.specs.Section.{Entry, unused}
 use Rattle.octets.specs.Lists.{collect}
 use Rattle.model.specs.Journal.{sectionOf, dueIds, Found, ordered, Replayed, usedEntry, usedOf, replayIn}
-use Rattle.model.specs.Layout.{layoutOk}
+use Rattle.on_disk.specs.Layout.{layoutOk}
 use Rattle.model.specs.Tag.{Tag, tagOf}
 use Rattle.model.specs.Refusal.{refusalOf}
 use Rattle.model.specs.State.{Verdict, passed}

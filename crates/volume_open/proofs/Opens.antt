@@ -12,12 +12,12 @@ use Rattle.octets.specs.Answer as octets
 use Rattle.octets.specs.Choice.{firstMet}
 use Rattle.octets.proofs.Answers.{refused-not-taken}
 use Rattle.octets.proofs.Choice.{passes, unmet, first-append, met}
-use Rattle.model.specs.declared.Layout.{Layout}
+use Rattle.on_disk.specs.declared.Layout.{Layout}
 use Rattle.model.specs.declared.Phase.{Phase}
 use Rattle.model.specs.declared.Refusal.{Refusal}
-use Rattle.model.specs.Layout.{needed, layoutOk}
-use Rattle.model.specs.Superblock.{superblockAt, layoutIn}
-use Rattle.model.specs.Section.{emptySection}
+use Rattle.on_disk.specs.Layout.{needed, layoutOk}
+use Rattle.on_disk.specs.Superblock.{superblockAt, layoutIn}
+use Rattle.on_disk.specs.Section.{emptySection}
 use Rattle.octets.specs.Lists.{allBelow, firstBelow}
 use Rattle.model.specs.Journal.{greatestId, replay}
 use Rattle.model.specs.Store.{stepsOf}

@@ -12,13 +12,13 @@ use Rattle.octets.specs.Choice.{firstMet}
 use Rattle.octets.specs.Parts.{same}
 use Rattle.octets.proofs.Answers.{taken-same, refused-not-taken}
 use Rattle.octets.proofs.Choice.{Unmet, NoneAnswers, unmet}
-use Rattle.model.specs.declared.Layout.{Layout}
-use Rattle.model.specs.Layout.{sectionSize, needed, layoutOk}
-use Rattle.model.specs.Superblock.{superblockOf, superblockAt, layoutIn, isZero, superblockOk}
+use Rattle.on_disk.specs.declared.Layout.{Layout}
+use Rattle.on_disk.specs.Layout.{sectionSize, needed, layoutOk}
+use Rattle.on_disk.specs.Superblock.{superblockOf, superblockAt, layoutIn, isZero, superblockOk}
 use Rattle.model.specs.State.{Verdict, passed, volumeLoanOk}
 use Rattle.model.specs.Open.{superblockRows}
 use Rattle.model.specs.Query.{queryBy, queryWith}
-use Rattle.model.proofs.Addresses.{and-both}
+use Rattle.on_disk.proofs.Addresses.{and-both}
 
 module _ (g : Layout) (r : ℕ) (v : List ℕ) where
   pub wrong-loan : volumeLoanOk v ≡ false → refuse 1 [] ≡ queryWith g r v

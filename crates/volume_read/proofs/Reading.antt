@@ -14,10 +14,10 @@ use Rattle.octets.specs.Parts.{part, patch, same}
 use Rattle.octets.proofs.Parts.{length-part, patch-all}
 use Rattle.octets.specs.Sectors.{sectorAt}
 use Rattle.digest.specs.Sha256.{sha256}
-use Rattle.model.specs.declared.Layout.{Layout}
+use Rattle.on_disk.specs.declared.Layout.{Layout}
 use Rattle.model.specs.declared.State.{State}
-use Rattle.model.specs.Layout.{dataAt, tagByte}
-use Rattle.model.specs.Section.{entryOf}
+use Rattle.on_disk.specs.Layout.{dataAt, tagByte}
+use Rattle.on_disk.specs.Section.{entryOf}
 use Rattle.model.specs.Tag.{Tags, tagOf, tagAt}
 use Rattle.model.specs.State.{passed, stateOk, volumeOk, stagingOk, isRecovering}
 use Rattle.model.specs.Read.{newestFor, stagedFor, readRows, readBy, readOf}

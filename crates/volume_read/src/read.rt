@@ -1,9 +1,9 @@
 // Read: R50, R51, R77; the model's specs/Read.antt.
 use layout::SECTOR_SIZE;
-use model::Layout;
 use model::ReadAnswer;
 use model::Refusal;
 use model::State;
+use on_disk::Layout;
 use sound::state;
 use sound::tag;
 ghost use mathlib.Core.Bool.{true};
@@ -12,7 +12,7 @@ ghost use Prim.Native.Nat.{_*_, _≤_, _<_};
 ghost use lib.ListN.{length};
 ghost use Rattle.octets.specs.Parts.{same};
 ghost use Rattle.octets.specs.Sectors.{sectorAt};
-ghost use Rattle.model.specs.Layout.{entryCount, sectionSize, dataAt, needed, layoutOk};
+ghost use Rattle.on_disk.specs.Layout.{entryCount, sectionSize, dataAt, needed, layoutOk};
 ghost use Rattle.model.specs.Tag.{tagOf, tagAt};
 ghost use Rattle.model.specs.Refusal.{readAnswer};
 ghost use Rattle.model.specs.Read.{readOf};

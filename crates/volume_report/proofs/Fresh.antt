@@ -9,11 +9,11 @@ use lib.ListN.{length, replicate, length-replicate}
 use borrow.Author.Tests.{le-ltb}
 use Rattle.octets.specs.Answer.{Answer, taken, isTaken}
 use Rattle.octets.specs.Choice.{pick}
-use Rattle.model.specs.declared.Layout.{Layout}
+use Rattle.on_disk.specs.declared.Layout.{Layout}
 use Rattle.model.specs.declared.Phase.the-variants.{Filling}
 use Rattle.model.specs.declared.State.{State}
-use Rattle.model.specs.Layout.{sectionSize}
-use Rattle.model.specs.Section.{emptySection}
+use Rattle.on_disk.specs.Layout.{sectionSize}
+use Rattle.on_disk.specs.Section.{emptySection}
 use Rattle.model.specs.Tag.{tagOf}
 use Rattle.model.specs.State.{passed}
 use Rattle.model.specs.Format.{formatOf}

@@ -10,14 +10,14 @@ use borrow.Author.Tests.{lt-ltb, le-ltb}
 use Rattle.octets.specs.Answer.{Answer, taken, refused, refusal}
 use Rattle.octets.proofs.Answers.{taken-same, refused-not-taken}
 use Rattle.octets.specs.Choice.{pick, firstMet}
-use Rattle.model.specs.declared.Layout.{Layout}
+use Rattle.on_disk.specs.declared.Layout.{Layout}
 use Rattle.model.specs.declared.QueryAnswer.{QueryAnswer}
 use Rattle.model.specs.declared.QueryAnswer.the-variants.{Holds, Refused}
 use Rattle.model.specs.declared.Refusal.{Refusal}
 use Rattle.model.specs.declared.State.{State}
 use Rattle.model.specs.Refusal.{refusalOf, queryAnswer}
-use Rattle.model.specs.Layout.{sectionSize, tagArea, runLength, needed, layoutOk}
-use Rattle.model.specs.Superblock.{superblockAt, layoutIn}
+use Rattle.on_disk.specs.Layout.{sectionSize, tagArea, runLength, needed, layoutOk}
+use Rattle.on_disk.specs.Superblock.{superblockAt, layoutIn}
 use Rattle.model.specs.State.{Verdict, passed}
 use Rattle.model.specs.Open.{superblockRows}
 use Rattle.model.specs.Query.{queryBy, queryWith, queryOf}

@@ -12,7 +12,7 @@ use Rattle.octets.specs.Choice.{pick}
 use Rattle.octets.specs.Parts.{patch}
 use Rattle.octets.proofs.Parts.{patch-join}
 use Rattle.octets.specs.Lists.{collect}
-use Rattle.model.specs.declared.Layout.{Layout}
+use Rattle.on_disk.specs.declared.Layout.{Layout}
 use Rattle.volume_check.specs.Check.{flagsOf, countOf}
 use Rattle.volume_report.specs.Report.{lineOf, layoutLine, flagged, badLine, badLines, checkedText, checkText, Puts}
 use Rattle.volume_check.proofs.Checks.{get-flags}

@@ -24,9 +24,9 @@ use Rattle.octets.specs.Answer.{Refusal, Answer, taken, refused, refusal}
 use Rattle.octets.specs.Choice.{pick}
 use Rattle.octets.specs.Parts.{patch}
 use Rattle.octets.specs.Sectors.{sectorSize}
-use Rattle.model.specs.declared.Layout.{Layout}
+use Rattle.on_disk.specs.declared.Layout.{Layout}
 use Rattle.model.specs.declared.State.{State}
-use Rattle.model.specs.Layout.{runLength}
+use Rattle.on_disk.specs.Layout.{runLength}
 use Rattle.octets.specs.Lists.{collect}
 use Rattle.model.specs.Tag.{tagOf}
 use Rattle.model.specs.State.{passed}

@@ -1,9 +1,9 @@
 // The report of a check, as text, whose lines are defined in specs/Report.antt: R88 to R90.
 use layout::SECTOR_SIZE;
-use model::Layout;
 use model::QueryAnswer;
 use model::Refusal;
 use model::State;
+use on_disk::Layout;
 use volume_check::RecoverAnswer;
 ghost use Prim.Native.Nat.{_+_, _*_, _≤_};
 ghost use mathlib.Core.Bool.{true};
@@ -14,7 +14,7 @@ ghost use lib.ListN.{length};
 ghost use Rattle.io.specs.Counts.{Counts};
 ghost use Rattle.octets.specs.Choice.{pick};
 ghost use Rattle.model.specs.Refusal.{refusalOf};
-ghost use Rattle.model.specs.Layout.{layoutOk};
+ghost use Rattle.on_disk.specs.Layout.{layoutOk};
 ghost use Rattle.volume_check.specs.Check.{recoverOf, isBad};
 ghost use Rattle.volume_report.specs.Report.{newline, decimal, layoutLine, flagged, badLine, badLines, refusedLine, checkedText, checkText, reportFrom, reportOf, Puts, Reports};
 

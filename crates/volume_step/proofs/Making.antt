@@ -11,7 +11,7 @@ use Rattle.octets.specs.Answer.{Answer, taken, refused}
 use Rattle.octets.specs.Sectors.{putSector}
 use Rattle.model.specs.declared.Done.{Done}
 use Rattle.model.specs.declared.Done.the-variants.{Idle, Stored}
-use Rattle.model.specs.declared.Layout.{Layout}
+use Rattle.on_disk.specs.declared.Layout.{Layout}
 use Rattle.model.specs.declared.Phase.the-variants.{Recovering}
 use Rattle.model.specs.declared.Says.{Says}
 use Rattle.model.specs.declared.State.{State}
@@ -19,7 +19,7 @@ use Rattle.model.specs.declared.StepAnswer.{StepAnswer}
 use Rattle.model.specs.declared.StepAnswer.the-variants as answers
 use Rattle.model.specs.declared.Stepped.{Stepped}
 use Rattle.model.specs.Refusal.{stepAnswer}
-use Rattle.model.specs.Section.{entryOf}
+use Rattle.on_disk.specs.Section.{entryOf}
 use Rattle.model.specs.Journal.{sectionOf, replay}
 use Rattle.model.specs.Store.{Store, Effect, none, one, made, contentOf, homeStore, stepsOf}
 use Rattle.model.specs.State.{stateOk, volumeOk, stagingOk}

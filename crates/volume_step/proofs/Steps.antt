@@ -21,8 +21,8 @@ use Rattle.model.specs.declared.State.{State}
 use Rattle.model.specs.declared.StepAnswer.the-variants as answers
 use Rattle.model.specs.declared.Stepped.{Stepped}
 use Rattle.model.specs.Refusal.{refusalOf, stepAnswer}
-use Rattle.model.specs.Layout.{sectionSize}
-use Rattle.model.specs.Section.{Entry, entryOf, emptySection}
+use Rattle.on_disk.specs.Layout.{sectionSize}
+use Rattle.on_disk.specs.Section.{Entry, entryOf, emptySection}
 use Rattle.model.specs.Journal.{sectionOf, replay}
 use Rattle.model.specs.Store.{Store, one, homeCount, homeStore, RecoveryStep, storing, stepsOf, recoveryStepAt}
 use Rattle.model.specs.State.{passed, stateOk, volumeOk, stagingOk, inPhase}

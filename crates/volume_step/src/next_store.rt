@@ -19,7 +19,7 @@ ghost use mathlib.Core.Path.{_≡_};
 ghost use Prim.Native.Nat.{ℕ, _*_, _<_};
 ghost use lib.Dec.{leb};
 ghost use lib.ListN.{length};
-ghost use Rattle.model.specs.Layout.{needed};
+ghost use Rattle.on_disk.specs.Layout.{needed};
 ghost use Rattle.model.specs.State.{lastId, volumeLoanOk, stateOk, volumeOk, stagingOk};
 ghost use Rattle.model.specs.Step.{stepOf};
 ghost use Rattle.model.specs.JournalStep.{commitStep};

@@ -1,5 +1,5 @@
 use borrow.Author.Needs.{needs}
-use Rattle.model.specs.Layout.{layoutOk}
+use Rattle.on_disk.specs.Layout.{layoutOk}
 use Rattle.layout.proofs.layout_ok.Statement.{statement}
 use Rattle.layout.proofs.layout_ok.Tie as tie
 

@@ -2,8 +2,8 @@ use Prim.Native.Nat.{ℕ, _/_}
 use mathlib.Core.Path.{ap, _≡_}
 use native.Mathlib.Omega.{arith}
 use borrow.Author.Needs.{needs}
-use Rattle.model.specs.Layout.{perSector}
-use Rattle.model.proofs.Sections.{per-pos}
+use Rattle.on_disk.specs.Layout.{perSector}
+use Rattle.on_disk.proofs.Sections.{per-pos}
 use Rattle.layout.proofs.Sizes.{per-high}
 use Rattle.layout.proofs.per_sector.Statement.{statement}
 use Rattle.layout.proofs.per_sector.Tie as tie

@@ -1,5 +1,5 @@
 use mathlib.Core.Path.{refl}
-use Rattle.model.specs.Layout.{widthOk}
+use Rattle.on_disk.specs.Layout.{widthOk}
 use Rattle.layout.proofs.width_ok.Statement.{statement}
 use Rattle.layout.proofs.width_ok.Tie as tie
 

@@ -5,9 +5,9 @@ use native.Mathlib.Omega.{arith}
 use lib.Seq.{take-all}
 use lib.ListN.{length, take}
 use borrow.Author.Needs.{needs}
-use Rattle.model.specs.Section.{emptySector, emptySection}
+use Rattle.on_disk.specs.Section.{emptySector, emptySection}
 use Rattle.octets.specs.Lists.{collect}
-use Rattle.model.specs.Layout.{sectionSize}
+use Rattle.on_disk.specs.Layout.{sectionSize}
 use Rattle.section.proofs.Clearing.{clear-metadata, clear-data}
 use Rattle.section.proofs.clear_section.Statement.{statement}
 use Rattle.section.proofs.clear_section.Tie as tie

@@ -5,8 +5,8 @@ use lib.ListN.{length}
 use borrow.Author.Needs.{needs}
 use Rattle.octets.specs.Parts.{patch}
 use Rattle.octets.specs.Numbers.{le}
-use Rattle.model.specs.Section.{unused}
-use Rattle.model.specs.Layout.{perSector, entrySize}
+use Rattle.on_disk.specs.Section.{unused}
+use Rattle.on_disk.specs.Layout.{perSector, entrySize}
 use Rattle.section.proofs.Clearing.{marked, mark-room, mark, none-marked, all-marked}
 use Rattle.section.proofs.empty_metadata.Statement.{statement}
 use Rattle.section.proofs.empty_metadata.Tie as tie

@@ -1,7 +1,7 @@
 use mathlib.Core.Path.{refl}
 use native.Mathlib.Omega.{arith}
 use borrow.Author.Needs.{needs}
-use Rattle.model.specs.Layout.{entrySize}
+use Rattle.on_disk.specs.Layout.{entrySize}
 use Rattle.section.proofs.Entries.{address}
 use Rattle.section.proofs.entry_at.Statement.{statement}
 use Rattle.section.proofs.entry_at.Tie as tie

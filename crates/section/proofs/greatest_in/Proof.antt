@@ -5,9 +5,9 @@ use native.Mathlib.Omega.{arith}
 use lib.ListN.{length}
 use borrow.Author.Needs.{needs}
 use Rattle.octets.specs.Sectors.{sectorAt}
-use Rattle.model.specs.Section.{idOf, greatestIn}
+use Rattle.on_disk.specs.Section.{idOf, greatestIn}
 use Rattle.octets.specs.Lists.{greatest}
-use Rattle.model.specs.Layout.{sectionSize}
+use Rattle.on_disk.specs.Layout.{sectionSize}
 use Rattle.section.proofs.Ids.{greatest-more}
 use Rattle.section.proofs.greatest_in.Statement.{statement}
 use Rattle.section.proofs.greatest_in.Tie as tie

@@ -4,8 +4,8 @@ use mathlib.Core.Path.{refl, sym, ap, _∙_, _≡_}
 use native.Mathlib.Omega.{arith}
 use lib.ListN.{length}
 use borrow.Author.Needs.{needs}
-use Rattle.model.specs.Layout.{entryCount}
-use Rattle.model.specs.Section.{entryOf}
+use Rattle.on_disk.specs.Layout.{entryCount}
+use Rattle.on_disk.specs.Section.{entryOf}
 use Rattle.section.specs.Locations.{storesBelow, storeNumber, missing, found}
 use Rattle.layout.proofs.Sizes.{width-high}
 use Rattle.section.proofs.Counts.{count-used, count-unused, locates}

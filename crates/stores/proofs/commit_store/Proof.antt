@@ -1,7 +1,7 @@
 use Prim.Native.Nat.{ℕ, _+_}
 use mathlib.Core.Path.{ap, _∙_}
 use native.Mathlib.Omega.{arith}
-use Rattle.model.specs.Layout.{sectionAt}
+use Rattle.on_disk.specs.Layout.{sectionAt}
 use Rattle.stores.proofs.Contents.{sector-sealed}
 use borrow.Author.Needs.{needs}
 use Rattle.stores.proofs.commit_store.Statement.{statement}

@@ -1,5 +1,5 @@
 use native.Mathlib.Omega.{arith}
-use Rattle.model.specs.Section.{entryOf}
+use Rattle.on_disk.specs.Section.{entryOf}
 use Rattle.model.proofs.Plans.{home-two}
 use Rattle.layout.proofs.Sizes.{width-high, provided-high}
 use Rattle.stores.proofs.Contents.{data-filled, tag-filled}

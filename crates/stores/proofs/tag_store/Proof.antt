@@ -1,6 +1,6 @@
 use native.Mathlib.Omega.{arith}
 use Rattle.layout.proofs.Sizes.{provided-high}
-use Rattle.model.proofs.Addresses.{ranged, tag-room, tag-inside, tag-sector}
+use Rattle.on_disk.proofs.Addresses.{ranged, tag-room, tag-inside, tag-sector}
 use Rattle.stores.proofs.Contents.{tag-sector-at, tag-replaced}
 use borrow.Author.Needs.{needs}
 use Rattle.stores.proofs.tag_store.Statement.{statement}

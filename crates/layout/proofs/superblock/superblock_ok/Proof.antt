@@ -1,8 +1,8 @@
 use mathlib.Core.Path.{ap, _∙_}
 use native.Mathlib.Omega.{arith}
 use borrow.Author.Needs.{needs}
-use Rattle.model.specs.Superblock.{isZero}
-use Rattle.model.specs.Layout.{layoutOk}
+use Rattle.on_disk.specs.Superblock.{isZero}
+use Rattle.on_disk.specs.Layout.{layoutOk}
 use Rattle.octets.proofs.Slices.{lent-rest}
 use Rattle.layout.proofs.Fields.{valid}
 use Rattle.layout.proofs.superblock.superblock_ok.Statement.{statement}

@@ -5,7 +5,7 @@ use native.Mathlib.Omega.{arith}
 use lib.ListN.{take}
 use borrow.Author.Tests.{not-true, not-false}
 use borrow.Author.Needs.{needs}
-use Rattle.model.specs.Section.{putEntry}
+use Rattle.on_disk.specs.Section.{putEntry}
 use Rattle.layout.proofs.Sizes.{width-high}
 use Rattle.model.proofs.States.{state-layout, staging-length}
 use Rattle.model.specs.Tag.{tagOf}

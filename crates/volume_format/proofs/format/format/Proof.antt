@@ -2,7 +2,7 @@ use mathlib.Core.Path.{sym, _∙_, ap}
 use native.Mathlib.Omega.{arith}
 use borrow.Author.Tests.{not-true, not-false}
 use borrow.Author.Needs.{needs}
-use Rattle.model.specs.Superblock.{isZero}
+use Rattle.on_disk.specs.Superblock.{isZero}
 use Rattle.model.specs.Tag.{tagOf}
 use Rattle.volume_format.proofs.Formats.{wrong-loan, wrong-layout, too-short, not-zero, formatted, all-stored}
 use Rattle.volume_format.proofs.format.format.Statement.{statement}

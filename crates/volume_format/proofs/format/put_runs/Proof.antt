@@ -8,7 +8,7 @@ use Rattle.volume_format.proofs.Formats.{chunk-fits, patch-nil, chunk-t
 use Rattle.model.specs.Format.{freshRun}
 use Rattle.model.specs.Tag.{tagOf}
 use Rattle.octets.specs.Lists.{collect}
-use Rattle.model.specs.Layout.{mostProvided, runLength, tagArea, layoutOk}
+use Rattle.on_disk.specs.Layout.{mostProvided, runLength, tagArea, layoutOk}
 use Rattle.octets.specs.Parts.{patch}
 use Rattle.volume_format.proofs.format.put_runs.Statement.{statement}
 use Rattle.volume_format.proofs.format.put_runs.Tie as tie

@@ -2,7 +2,7 @@ use Prim.Native.Nat.{ℕ, _+_, _-_, _*_, _/_, _%_}
 use mathlib.Core.Path.{ap, _∙_}
 use native.Mathlib.Omega.{arith}
 use borrow.Author.Needs.{needs}
-use Rattle.model.specs.Layout.{runLength}
+use Rattle.on_disk.specs.Layout.{runLength}
 use Rattle.model.specs.Format.{freshRun, lastRun}
 use Rattle.model.specs.Tag.{tagOf}
 use Rattle.octets.specs.Lists.{collect}

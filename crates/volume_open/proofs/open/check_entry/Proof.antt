@@ -3,7 +3,7 @@ use native.Mathlib.Omega.{arith}
 use borrow.Author.Needs.{needs}
 use borrow.Author.Tests.{not-true, not-false}
 use Rattle.layout.proofs.Sizes.{width-high}
-use Rattle.model.specs.Section.{entryOf}
+use Rattle.on_disk.specs.Section.{entryOf}
 use Rattle.model.specs.Tag.{tagOf}
 use Rattle.volume_open.proofs.Checks.{entry-unused, entry-out-of-range, entry-mismatch, entry-fits, entry-fits-is}
 use Rattle.volume_open.proofs.open.check_entry.Statement.{statement}

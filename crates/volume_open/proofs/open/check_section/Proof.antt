@@ -4,13 +4,13 @@ use mathlib.Core.Path.{refl, sym, ap, _∙_, _≡_}
 use native.Mathlib.Omega.{arith}
 use borrow.Author.Needs.{needs}
 use Rattle.layout.proofs.Sizes.{width-high}
-use Rattle.model.specs.Layout.{entryCount}
-use Rattle.model.specs.Section.{entryOf}
+use Rattle.on_disk.specs.Layout.{entryCount}
+use Rattle.on_disk.specs.Section.{entryOf}
 use Rattle.octets.specs.Lists.{collect}
 use Rattle.model.specs.Journal.{Replayed, usedEntry}
 use Rattle.model.specs.State.{passed}
 use Rattle.model.specs.Tag.{tagOf}
-use Rattle.model.specs.declared.Layout.{Layout}
+use Rattle.on_disk.specs.declared.Layout.{Layout}
 use Rattle.volume_open.proofs.Checks.{verdictOf, entries-more, entries-stop}
 use Rattle.volume_open.proofs.open.check_section.Statement.{statement}
 use Rattle.volume_open.proofs.open.check_section.Tie as tie

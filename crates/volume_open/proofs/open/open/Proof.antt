@@ -1,6 +1,6 @@
 use mathlib.Core.Path.{ap}
 use borrow.Author.Needs.{needs}
-use Rattle.model.specs.Superblock.{superblockAt, layoutIn}
+use Rattle.on_disk.specs.Superblock.{superblockAt, layoutIn}
 use Rattle.model.specs.Refusal.{queryAnswer}
 use Rattle.model.specs.Tag.{tagOf}
 use Rattle.volume_open.proofs.Queries.{refused-by}

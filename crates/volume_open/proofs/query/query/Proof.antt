@@ -2,9 +2,9 @@ use mathlib.Core.Path.{sym, ap, _∙_, _≡_}
 use borrow.Author.Needs.{needs}
 use borrow.Author.Tests.{not-true, not-false}
 use Rattle.layout.proofs.Sizes.{width-high}
-use Rattle.model.specs.declared.Layout.{Layout}
-use Rattle.model.specs.Layout.{layoutOk}
-use Rattle.model.specs.Superblock.{superblockAt, layoutIn}
+use Rattle.on_disk.specs.declared.Layout.{Layout}
+use Rattle.on_disk.specs.Layout.{layoutOk}
+use Rattle.on_disk.specs.Superblock.{superblockAt, layoutIn}
 use Rattle.model.specs.Query.{queryWith}
 use Rattle.volume_open.proofs.Queries.{wrong-loan, out-of-range, short-of-superblock, not-formatted, invalid, short, holds, valid-layout}
 use Rattle.volume_open.proofs.query.query.Statement.{statement}

@@ -4,7 +4,7 @@ use native.Mathlib.Omega.{arith}
 use lib.ListN.{length}
 use borrow.Author.Needs.{needs}
 use Rattle.model.specs.Read.{newestFor}
-use Rattle.model.specs.Layout.{entryCount, sectionSize}
+use Rattle.on_disk.specs.Layout.{entryCount, sectionSize}
 use Rattle.volume_read.proofs.Reading.{newest-hit, newest-miss}
 use Rattle.volume_read.proofs.read.newest_for.Statement.{statement}
 use Rattle.volume_read.proofs.read.newest_for.Tie as tie

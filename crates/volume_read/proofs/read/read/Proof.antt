@@ -2,7 +2,7 @@ use mathlib.Core.Path.{sym, _∙_}
 use native.Mathlib.Omega.{arith}
 use borrow.Author.Tests.{not-true, not-false}
 use borrow.Author.Needs.{needs}
-use Rattle.model.proofs.Addresses.{ranged, data-room}
+use Rattle.on_disk.proofs.Addresses.{ranged, data-room}
 use Rattle.model.specs.Tag.{tagOf}
 use Rattle.layout.proofs.Sizes.{width-high, provided-high}
 use Rattle.model.proofs.States.{state-layout, state-count, staging-length, volume-room}

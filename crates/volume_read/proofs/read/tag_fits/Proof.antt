@@ -5,7 +5,7 @@ use borrow.Author.Needs.{needs}
 use Rattle.octets.proofs.Parts.{length-part}
 use Rattle.volume_read.proofs.Reading.{fits-is}
 use Rattle.layout.proofs.Sizes.{width-high, provided-high}
-use Rattle.model.proofs.Addresses.{ranged, data-room, tag-room, tag-inside, tag-sector}
+use Rattle.on_disk.proofs.Addresses.{ranged, data-room, tag-room, tag-inside, tag-sector}
 use Rattle.volume_read.proofs.read.tag_fits.Statement.{statement}
 use Rattle.volume_read.proofs.read.tag_fits.Tie as tie
 

@@ -1,6 +1,6 @@
 use mathlib.Core.Path.{sym}
 use native.Mathlib.Omega.{arith}
-use Rattle.model.specs.Section.{entryOf}
+use Rattle.on_disk.specs.Section.{entryOf}
 use Rattle.model.proofs.Plans.{home-all}
 use Rattle.layout.proofs.Sizes.{width-high}
 use Rattle.model.proofs.States.{state-layout, state-writing-back, staging-length, volume-room}

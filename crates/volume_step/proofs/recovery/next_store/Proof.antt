@@ -2,7 +2,7 @@ use Prim.Native.Nat.{ℕ}
 use mathlib.Core.List.{List}
 use mathlib.Core.Path.{ap, _∙_}
 use native.Mathlib.Omega.{arith}
-use Rattle.model.specs.Section.{entryOf}
+use Rattle.on_disk.specs.Section.{entryOf}
 use Rattle.model.specs.Journal.{sectionOf}
 use Rattle.model.specs.Store.{homeCount, homeStore}
 use Rattle.layout.proofs.Sizes.{width-high}

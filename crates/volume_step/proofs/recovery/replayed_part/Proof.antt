@@ -1,7 +1,7 @@
 use Prim.Native.Nat.{ℕ}
 use mathlib.Core.List.{List}
 use mathlib.Core.Path.{_≡_, sym, ap, subst}
-use Rattle.model.specs.Section.{entryOf}
+use Rattle.on_disk.specs.Section.{entryOf}
 use Rattle.model.specs.Store.{Store, homeStore}
 use Rattle.stores.specs.declared.changes.Part.{Part}
 use Rattle.stores.specs.Asked.{StoreOfEntry}

@@ -1,7 +1,7 @@
 use mathlib.Core.List.{List}
 use mathlib.Core.Path.{ap, _∙_}
 use Prim.Native.Nat.{ℕ}
-use Rattle.model.specs.Section.{entryOf}
+use Rattle.on_disk.specs.Section.{entryOf}
 use Rattle.layout.proofs.Sizes.{width-high}
 use borrow.Author.Needs.{needs}
 use Rattle.volume_step.proofs.recovery.sector_of.Statement.{statement}

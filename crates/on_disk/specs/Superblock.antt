@@ -13,8 +13,8 @@ use lib.ListN.{length, replicate, getD}
 use Rattle.octets.specs.Numbers.{le, value}
 use Rattle.octets.specs.Parts.{part, same}
 use Rattle.octets.specs.Sectors.{sectorSize}
-use Rattle.model.specs.declared.Layout.{Layout}
-use Rattle.model.specs.Layout.{superblockSize, layoutOk}
+use Rattle.on_disk.specs.declared.Layout.{Layout}
+use Rattle.on_disk.specs.Layout.{superblockSize, layoutOk}
 
 abbrev pub magic : List ℕ
 magic = 0x69 ∷ 0x6e ∷ 0x74 ∷ 0x65 ∷ 0x67 ∷ 0x72 ∷ 0x74 ∷ 0 ∷ []

@@ -8,8 +8,8 @@ use mathlib.Core.Bool.{true}
 use mathlib.Core.Logic.{_≢_}
 use mathlib.Core.Path.{_≡_}
 use Rattle.octets.specs.Sectors.{sectorSize}
-use Rattle.model.specs.declared.Layout.{Layout}
-use Rattle.model.specs.Layout.{superblockSize, sectionSize, sectionAt, base, tagArea, runAt, dataAt, tagByte, tagSector, tagOffset, needed, layoutOk}
+use Rattle.on_disk.specs.declared.Layout.{Layout}
+use Rattle.on_disk.specs.Layout.{superblockSize, sectionSize, sectionAt, base, tagArea, runAt, dataAt, tagByte, tagSector, tagOffset, needed, layoutOk}
 
 pub data Apart (a n b m : ℕ) : Type 0 where
   before : a + n ≤ b → Apart a n b m

@@ -13,9 +13,9 @@ use lib.Dec.{leb, eqb}
 use borrow.Author.Tests.{eqb-true, leb-true}
 use Rattle.octets.specs.Parts.{part, patch}
 use Rattle.octets.proofs.Parts.{part-patch-before, part-patch-after}
-use Rattle.model.specs.Layout.{mostReserved, leastShift, mostShift, mostSections, mostProvided, sectionSize, runLength, tagArea, sectionAt, base, runAt, dataAt, tagStart, tagByte, tagSector, tagOffset, needed, layoutOk, widthOk}
-use Rattle.model.specs.declared.Layout.{Layout}
-use Rattle.model.specs.Geometry.{Apart, before, behind}
+use Rattle.on_disk.specs.Layout.{mostReserved, leastShift, mostShift, mostSections, mostProvided, sectionSize, runLength, tagArea, sectionAt, base, runAt, dataAt, tagStart, tagByte, tagSector, tagOffset, needed, layoutOk, widthOk}
+use Rattle.on_disk.specs.declared.Layout.{Layout}
+use Rattle.on_disk.specs.Geometry.{Apart, before, behind}
 
 pub part-apart : (l : List ℕ) (at : ℕ) (s : List ℕ) (b m : ℕ) → at + length s ≤ length l → Apart b m at (length s) → part (patch l at s) b m ≡ part l b m
 part-apart l at s b m f (before h) = part-patch-before l at s f b m h

@@ -18,11 +18,11 @@ use Rattle.octets.specs.Parts.{part, patch}
 use Rattle.octets.specs.Sectors.{sectorAt, putSector}
 use Rattle.octets.proofs.Parts.{part-append-left, part-patch-same, length-patch, part-part, length-part}
 use Rattle.octets.proofs.Sectors.{length-put, sector-put-same, sector-put-other}
-use Rattle.model.specs.Geometry.{Apart, before, behind}
-use Rattle.model.specs.Layout.{entrySize, perSector, entryCount, sectionSize}
-use Rattle.model.specs.Section.{unused, emptyEntry, emptySector, emptySection, Entry, idOf, withId, metadataOf, entryOffset, readEntry, entryOf, entryBytes, putEntry}
+use Rattle.on_disk.specs.Geometry.{Apart, before, behind}
+use Rattle.on_disk.specs.Layout.{entrySize, perSector, entryCount, sectionSize}
+use Rattle.on_disk.specs.Section.{unused, emptyEntry, emptySector, emptySection, Entry, idOf, withId, metadataOf, entryOffset, readEntry, entryOf, entryBytes, putEntry}
 use Rattle.octets.specs.Lists.{collect}
-use Rattle.model.proofs.Addresses.{part-apart}
+use Rattle.on_disk.proofs.Addresses.{part-apart}
 
 -- ---- the id field
 

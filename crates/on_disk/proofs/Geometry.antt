@@ -1,9 +1,9 @@
 -- The geometry of a layout in range, from the laws of its regions.
 use Prim.Native.Nat.{ℕ, _*_}
 use native.Mathlib.Omega.{arith}
-use Rattle.model.specs.Layout.{sectionSize, sectionAt, dataAt}
-use Rattle.model.specs.Geometry.{Apart, before, behind, Geometric}
-use Rattle.model.proofs.Addresses.{ranged, tag-in-area, area-data, data-data, tag-tag, tag-sector, tag-inside, data-high, data-room, area-room, section-low, section-apart}
+use Rattle.on_disk.specs.Layout.{sectionSize, sectionAt, dataAt}
+use Rattle.on_disk.specs.Geometry.{Apart, before, behind, Geometric}
+use Rattle.on_disk.proofs.Addresses.{ranged, tag-in-area, area-data, data-data, tag-tag, tag-sector, tag-inside, data-high, data-room, area-room, section-low, section-apart}
 
 -- what lies apart by bytes lies apart by sectors
 by-sectors : (a n b m : ℕ) → Apart (a * 512) (n * 512) (b * 512) (m * 512) → Apart a n b m
