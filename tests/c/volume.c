@@ -301,6 +301,34 @@ static void test_malformed(void) {
     assert_untouched(answer, ANSWER);
 }
 
+/* NULL with length 0: in place of one buffer, and of all of them. */
+static void test_null(void) {
+    begin();
+    memset(answer, MARK, ANSWER);
+    assert(gaffreel_volume_format(NULL, 0, 0, 4, 32, 1, 16, answer, ANSWER) == GAFFREEL_SHORT);
+    assert_answer(1, 120, 0);
+    assert(gaffreel_volume_query(NULL, 0, 0, layout, LAYOUT, answer, ANSWER) == GAFFREEL_SHORT);
+    assert_answer(1, 8, 0);
+    assert(gaffreel_volume_open(volume, VOLUME, NULL, 0, 0, state, STATE, answer, ANSWER) == GAFFREEL_LENGTH_OR_LIMIT);
+    assert_answer(0, 0, 0);
+    assert(gaffreel_volume_write(state, STATE, staging, STAGING, 0, NULL, 0, answer, ANSWER) == GAFFREEL_LENGTH_OR_LIMIT);
+    assert(gaffreel_volume_next_store(state, STATE, volume, VOLUME, staging, STAGING, NULL, 0, answer, ANSWER)
+           == GAFFREEL_LENGTH_OR_LIMIT);
+    assert(gaffreel_volume_read(state, STATE, NULL, 0, staging, STAGING, 0, bytes, SECTOR, answer, ANSWER)
+           == GAFFREEL_LENGTH_OR_LIMIT);
+
+    assert(gaffreel_volume_format(NULL, 0, 0, 4, 32, 1, 16, NULL, 0) == GAFFREEL_LENGTH_OR_LIMIT);
+    assert(gaffreel_volume_query(NULL, 0, 0, NULL, 0, NULL, 0) == GAFFREEL_LENGTH_OR_LIMIT);
+    assert(gaffreel_volume_open(NULL, 0, NULL, 0, 0, NULL, 0, NULL, 0) == GAFFREEL_LENGTH_OR_LIMIT);
+    assert(gaffreel_volume_write(NULL, 0, NULL, 0, 0, NULL, 0, NULL, 0) == GAFFREEL_LENGTH_OR_LIMIT);
+    assert(gaffreel_volume_flush(NULL, 0, NULL, 0) == GAFFREEL_LENGTH_OR_LIMIT);
+    assert(gaffreel_volume_step(NULL, 0, NULL, 0, NULL, 0, NULL, 0) == GAFFREEL_LENGTH_OR_LIMIT);
+    assert(gaffreel_volume_next_store(NULL, 0, NULL, 0, NULL, 0, NULL, 0, NULL, 0) == GAFFREEL_LENGTH_OR_LIMIT);
+    assert(gaffreel_volume_advance(NULL, 0, NULL, 0, NULL, 0, 1, NULL, 0) == GAFFREEL_LENGTH_OR_LIMIT);
+    assert(gaffreel_volume_read(NULL, 0, NULL, 0, NULL, 0, 0, NULL, 0, NULL, 0) == GAFFREEL_LENGTH_OR_LIMIT);
+    assert_reads(0, 0);
+}
+
 int main(void) {
     test_query();
     test_full();
@@ -310,6 +338,7 @@ int main(void) {
     test_refusals();
     test_refused_advance();
     test_malformed();
+    test_null();
     puts("volume: all checks passed");
     return 0;
 }

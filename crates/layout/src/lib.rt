@@ -1,9 +1,8 @@
-// Sizes and addresses: R15 to R28. Each function gives what the definition of its name in specs/Layout.antt
-// of crate on_disk gives, with a bound, so that a caller's arithmetic needs no other fact. Unless another unit is named, a size is in sectors,
-// and an address is the number of a sector of the volume.
+// Sizes and addresses: R15 to R28. Each function gives what the definition of its name in on_disk's specs/Layout.antt gives, with a bound, so that a
+// caller's arithmetic needs no other fact. Unless another unit is named, a size is in sectors, and an address is the number of a sector of the volume.
 //
-// `layout_ok`, `width_ok` and `volume_loan_ok`, which is that of the model's specs/State.antt, take anything. The others are for the crates of this repository: they require a layout in range, or a tag of
-// at most 32 bytes, which their callers have tested.
+// `layout_ok`, `width_ok` and `volume_loan_ok`, which is that of the model's specs/State.antt, take anything. The others are for the crates of this
+// repository: they require a layout in range, or a tag of at most 32 bytes, which their callers have tested.
 pub mod superblock;
 
 use on_disk::Layout;
@@ -11,7 +10,7 @@ ghost use mathlib.Core.Bool.{true};
 ghost use mathlib.Core.Path.{_≡_};
 ghost use Prim.Native.Nat.{_*_, _^_, _≤_, _<_};
 ghost use lib.ListN.{length};
-ghost use Rattle.on_disk.specs.Layout.{mostProvided, entrySize, perSector, entryCount, sectionSize, sectionAt, runLength, tagArea, runAt, dataAt, tagByte, needed, widthOk, layoutOk};
+ghost use Rattle.on_disk.specs.Layout.{mostWidth, mostProvided, entrySize, perSector, entryCount, sectionSize, sectionAt, runLength, tagArea, runAt, dataAt, tagByte, needed, widthOk, layoutOk};
 ghost use Rattle.on_disk.specs.Section.{Entry};
 ghost use Rattle.model.specs.Store.{mostHomeStores, homeCount};
 ghost use Rattle.model.specs.State.{volumeLoanOk};
@@ -82,7 +81,7 @@ pub fn layout_ok(g: Layout) -> bool
 
 // The bytes of a journal entry: its logical sector, its last data bytes and its tag.
 pub fn entry_size(t: usize) -> usize
-    requires { ⌜ t ≤ 32 ⌝ }
+    requires { ⌜ t ≤ mostWidth ⌝ }
     ensures { λ r. ⌜ (r ≡ entrySize t) × (r ≤ 48) ⌝ }
 {
     8 + 8 + t
@@ -90,7 +89,7 @@ pub fn entry_size(t: usize) -> usize
 
 // The entries in a metadata sector.
 pub fn per_sector(t: usize) -> usize
-    requires { ⌜ t ≤ 32 ⌝ }
+    requires { ⌜ t ≤ mostWidth ⌝ }
     ensures { λ r. ⌜ (r ≡ perSector t) × (0 < r) × (r ≤ 31) ⌝ }
 {
     ENTRIES_SIZE / entry_size(t)
@@ -98,7 +97,7 @@ pub fn per_sector(t: usize) -> usize
 
 // E, the entries of a section.
 pub fn entry_count(t: usize) -> usize
-    requires { ⌜ t ≤ 32 ⌝ }
+    requires { ⌜ t ≤ mostWidth ⌝ }
     ensures { λ r. ⌜ (r ≡ entryCount t) × (r ≤ 248) ⌝ }
 {
     METADATA_SIZE * per_sector(t)
@@ -106,7 +105,7 @@ pub fn entry_count(t: usize) -> usize
 
 // M, the size of a section.
 pub fn section_size(t: usize) -> usize
-    requires { ⌜ t ≤ 32 ⌝ }
+    requires { ⌜ t ≤ mostWidth ⌝ }
     ensures { λ r. ⌜ (r ≡ sectionSize t) × (r ≤ 256) ⌝ }
 {
     METADATA_SIZE + entry_count(t)

@@ -34,6 +34,9 @@ leastShift = 3
 abbrev pub mostShift : ℕ
 mostShift = 15
 
+abbrev pub mostWidth : ℕ
+mostWidth = 32
+
 abbrev pub mostSections : ℕ
 mostSections = 64
 

@@ -8,7 +8,7 @@ ghost use mathlib.Core.Path.{_≡_};
 ghost use Prim.Native.Nat.{ℕ, _+_, _*_, _≤_, _<_};
 ghost use lib.ListN.{length, take};
 ghost use Rattle.octets.specs.Sectors.{sectorSize, sectorAt};
-ghost use Rattle.on_disk.specs.Layout.{entrySize, entryCount, sectionSize, layoutOk};
+ghost use Rattle.on_disk.specs.Layout.{mostWidth, entrySize, entryCount, sectionSize, layoutOk};
 ghost use Rattle.on_disk.specs.Section.{idOf, metadataOf, entryOffset, entryOf, putEntry, greatestIn, emptySector, emptySection};
 ghost use Rattle.model.specs.Journal.{usedOf};
 ghost use Rattle.model.specs.Store.{storesOf};
@@ -48,7 +48,7 @@ pub fn id_at(section: &[u8], j: usize) -> u64
 
 // The greatest id on any sector.
 pub fn greatest_in(section: &[u8], t: usize) -> u64
-    requires { ⌜ (t ≤ 32) × (length (now section) ≡ sectionSize t * sectorSize) ⌝ }
+    requires { ⌜ (t ≤ mostWidth) × (length (now section) ≡ sectionSize t * sectorSize) ⌝ }
     ensures { λ r. ⌜ r ≡ greatestIn t (now (section .entry)) ⌝ }
 {
     let size = layout::section_size(t);
@@ -68,7 +68,7 @@ pub fn greatest_in(section: &[u8], t: usize) -> u64
 
 // The byte of the section at which entry i starts.
 fn entry_at(t: usize, i: usize) -> usize
-    requires { ⌜ (t ≤ 32) × (i < entryCount t) ⌝ }
+    requires { ⌜ (t ≤ mostWidth) × (i < entryCount t) ⌝ }
     ensures { λ r. ⌜ (r ≡ metadataOf t i * sectorSize + entryOffset t i) × (r + entrySize t ≤ 8 * sectorSize) ⌝ }
 {
     let per = layout::per_sector(t);
@@ -77,7 +77,7 @@ fn entry_at(t: usize, i: usize) -> usize
 
 // The logical sector of entry i.
 pub fn entry_sector(section: &[u8], t: usize, i: usize) -> u64
-    requires { ⌜ (t ≤ 32) × (i < entryCount t) × (length (now section) ≡ sectionSize t * sectorSize) ⌝ }
+    requires { ⌜ (t ≤ mostWidth) × (i < entryCount t) × (length (now section) ≡ sectionSize t * sectorSize) ⌝ }
     ensures { λ r. ⌜ r ≡ entryOf t (now (section .entry)) i .sector ⌝ }
 {
     octets::number(section, entry_at(t, i), NUMBER_SIZE)
@@ -85,7 +85,7 @@ pub fn entry_sector(section: &[u8], t: usize, i: usize) -> u64
 
 // The tag of entry i, where it stands.
 pub fn entry_tag(section: &[u8], t: usize, i: usize) -> &[u8]
-    requires { ⌜ (t ≤ 32) × (i < entryCount t) × (length (now section) ≡ sectionSize t * sectorSize) ⌝ }
+    requires { ⌜ (t ≤ mostWidth) × (i < entryCount t) × (length (now section) ≡ sectionSize t * sectorSize) ⌝ }
     ensures { λ r. ⌜ (now r ≡ entryOf t (now (section .entry)) i .tag) × (length (now r) ≡ t) ⌝ }
 {
     let start = entry_at(t, i) + TAG_AT;
@@ -95,7 +95,7 @@ pub fn entry_tag(section: &[u8], t: usize, i: usize) -> &[u8]
 
 // Copies the 512 data bytes of entry i: the first 504 stand in its data sector, the others in the entry.
 pub fn entry_data(section: &[u8], t: usize, i: usize, bytes: &mut [u8])
-    requires { ⌜ (t ≤ 32) × (i < entryCount t) × (length (now section) ≡ sectionSize t * sectorSize) × (length (now bytes) ≡ sectorSize) ⌝ }
+    requires { ⌜ (t ≤ mostWidth) × (i < entryCount t) × (length (now section) ≡ sectionSize t * sectorSize) × (length (now bytes) ≡ sectorSize) ⌝ }
     ensures { λ r. ⌜ now (bytes .exit) ≡ entryOf t (now (section .entry)) i .bytes ⌝ }
 {
     let at = entry_at(t, i);
@@ -105,7 +105,7 @@ pub fn entry_data(section: &[u8], t: usize, i: usize, bytes: &mut [u8])
 
 // Puts an entry in as entry i: a logical sector, its data, and the first T bytes of `tag`.
 pub fn put_entry(section: &mut [u8], t: usize, i: usize, sector: usize, bytes: &[u8], tag: &[u8])
-    requires { ⌜ (t ≤ 32) × (i < entryCount t) × (length (now section) ≡ sectionSize t * sectorSize) × (length (now bytes) ≡ sectorSize) × (t ≤ length (now tag)) ⌝ }
+    requires { ⌜ (t ≤ mostWidth) × (i < entryCount t) × (length (now section) ≡ sectionSize t * sectorSize) × (length (now bytes) ≡ sectorSize) × (t ≤ length (now tag)) ⌝ }
     ensures { λ r. ⌜ now (section .exit) ≡ putEntry t (now (section .entry)) i (record { sector = sector; bytes = now (bytes .entry); tag = take t (now (tag .entry)) }) ⌝ }
 {
     let at = entry_at(t, i);
@@ -119,7 +119,7 @@ pub fn put_entry(section: &mut [u8], t: usize, i: usize, sector: usize, bytes: &
 
 // A metadata sector without a used entry, its id zero.
 fn empty_metadata(t: usize) -> [u8; SECTOR_SIZE]
-    requires { ⌜ t ≤ 32 ⌝ }
+    requires { ⌜ t ≤ mostWidth ⌝ }
     ensures { λ r. ⌜ (r ≡ emptySector t 0) × (length r ≡ sectorSize) ⌝ }
 {
     let per = layout::per_sector(t);
@@ -135,7 +135,7 @@ fn empty_metadata(t: usize) -> [u8; SECTOR_SIZE]
 
 // Makes the section one without a used entry, all ids zero.
 pub fn clear_section(section: &mut [u8], t: usize)
-    requires { ⌜ (t ≤ 32) × (length (now section) ≡ sectionSize t * sectorSize) ⌝ }
+    requires { ⌜ (t ≤ mostWidth) × (length (now section) ≡ sectionSize t * sectorSize) ⌝ }
     ensures { λ r. ⌜ now (section .exit) ≡ emptySection t ⌝ }
 {
     let size = layout::section_size(t);

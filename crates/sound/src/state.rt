@@ -9,6 +9,7 @@ ghost use mathlib.Core.Path.{_≡_};
 ghost use Prim.Native.Nat.{_*_, _≤_};
 ghost use lib.Dec.{leb};
 ghost use lib.ListN.{length};
+ghost use Rattle.octets.specs.Sectors.{sectorSize};
 ghost use Rattle.on_disk.specs.Layout.{needed, layoutOk};
 ghost use Rattle.model.specs.Journal.{replay};
 ghost use Rattle.model.specs.Store.{stepsOf};
@@ -78,7 +79,7 @@ pub fn is_recovering(p: Phase) -> bool
 // Whether v is a volume that the layout fits.
 pub fn layout_fits(g: Layout, v: &[u8]) -> bool
     requires { ⌜ layoutOk g ≡ true ⌝ }
-    ensures { λ r. ⌜ r ≡ volumeLoanOk (now (v .entry)) && leb (needed g * 512) (length (now (v .entry))) ⌝ }
+    ensures { λ r. ⌜ r ≡ volumeLoanOk (now (v .entry)) && leb (needed g * sectorSize) (length (now (v .entry))) ⌝ }
 {
     let loan = layout::volume_loan_ok(v);
     loan & (layout::needed(g) * SECTOR_SIZE <= v.len())
@@ -104,7 +105,7 @@ pub fn volume_ok(s: State, v: &[u8]) -> bool
 
 // How many steps a recovery of the volume takes.
 fn recovery_steps(v: &[u8], g: Layout) -> usize
-    requires { ⌜ (layoutOk g ≡ true) × (needed g * 512 ≤ length (now v)) ⌝ }
+    requires { ⌜ (layoutOk g ≡ true) × (needed g * sectorSize ≤ length (now v)) ⌝ }
     ensures { λ r. ⌜ r ≡ stepsOf g (replay g (now (v .entry))) ⌝ }
 {
     let mut ids = [0u64; MOST_SECTIONS];

@@ -3,11 +3,12 @@ ghost use mathlib.Core.Path.{_≡_};
 ghost use mathlib.Core.List.{_++_};
 ghost use lib.ListN.{length};
 ghost use Rattle.octets.specs.Numbers.{le};
+ghost use Rattle.octets.specs.Sectors.{sectorSize};
 ghost use Rattle.digest.specs.Sha256.{sha256};
 
 // The digest of logical sector s with its bytes; the first T bytes of it are the tag.
 pub fn tag(s: usize, bytes: &[u8]) -> [u8; 32]
-    requires { ⌜ length (now bytes) ≡ 512 ⌝ }
+    requires { ⌜ length (now bytes) ≡ sectorSize ⌝ }
     ensures { λ r. ⌜ (r ≡ sha256 (le 8 s ++ now (bytes .entry))) × (length r ≡ 32) ⌝ }
 {
     let mut number = [0u8; 8];

@@ -6,6 +6,7 @@ ghost use mathlib.Core.List.{List};
 ghost use mathlib.Core.Path.{_≡_};
 ghost use Prim.Native.Nat.{ℕ, _*_, _≤_};
 ghost use lib.ListN.{length};
+ghost use Rattle.octets.specs.Sectors.{sectorSize};
 ghost use Rattle.on_disk.specs.Layout.{needed};
 ghost use Rattle.on_disk.specs.Section.{entryOf};
 ghost use Rattle.model.specs.Store.{homeStore};
@@ -28,8 +29,8 @@ pub fn home_part(
     h: usize,
     out: &mut [u8],
 ) -> Part
-    requires { ⌜ StoreOfEntry g (now section) i sector h × (length (now out) ≡ 512) ⌝ }
-    ensures { λ r. ⌜ ((v : List ℕ) → needed g * 512 ≤ length v → Changes v (homeStore g v (entryOf (g .width) (now (section .entry)) i) h) r (now (out .exit))) ⌝ }
+    requires { ⌜ StoreOfEntry g (now section) i sector h × (length (now out) ≡ sectorSize) ⌝ }
+    ensures { λ r. ⌜ ((v : List ℕ) → needed g * sectorSize ≤ length v → Changes v (homeStore g v (entryOf (g .width) (now (section .entry)) i) h) r (now (out .exit))) ⌝ }
 {
     if h == 0 {
         section::entry_data(section, g.width, i, out);

@@ -16,7 +16,7 @@ ghost use mathlib.Core.Path.{_≡_};
 ghost use Prim.Native.Nat.{ℕ, _*_, _≤_, _<_};
 ghost use lib.ListN.{length};
 ghost use Rattle.octets.specs.Parts.{patch};
-ghost use Rattle.octets.specs.Sectors.{sectorAt};
+ghost use Rattle.octets.specs.Sectors.{sectorSize, sectorAt};
 ghost use Rattle.on_disk.specs.Layout.{tagSector, tagOffset, needed, layoutOk};
 ghost use Rattle.on_disk.specs.Section.{entryOf};
 ghost use Rattle.model.specs.Store.{homeStore};
@@ -25,7 +25,7 @@ ghost use Rattle.stores.specs.Asked.{SectorOfCommit, StoreOfEntry};
 
 // Sector j of the section that a batch is committed to: staging's, with the id put in.
 pub fn commit_store(s: State, st: &[u8], j: usize, out: &mut [u8]) -> usize
-    requires { ⌜ SectorOfCommit s (now st) j × (length (now out) ≡ 512) ⌝ }
+    requires { ⌜ SectorOfCommit s (now st) j × (length (now out) ≡ sectorSize) ⌝ }
     ensures { λ r. ⌜ ((v : List ℕ) → record { at = r; content = now (out .exit) } ≡ commitStore s v (now (st .entry)) j) ⌝ }
 {
     let g = s.layout;
@@ -36,7 +36,7 @@ pub fn commit_store(s: State, st: &[u8], j: usize, out: &mut [u8]) -> usize
 
 // The sector with the tag of a logical sector: the volume's, with only that tag replaced, so that the neighbours' tags stay.
 fn tag_store(v: &[u8], g: Layout, sector: usize, tag: &[u8], out: &mut [u8]) -> usize
-    requires { ⌜ (layoutOk g ≡ true) × (needed g * 512 ≤ length (now v)) × (sector < g .provided) × (length (now tag) ≡ g .width) × (length (now out) ≡ 512) ⌝ }
+    requires { ⌜ (layoutOk g ≡ true) × (needed g * sectorSize ≤ length (now v)) × (sector < g .provided) × (length (now tag) ≡ g .width) × (length (now out) ≡ sectorSize) ⌝ }
     ensures { λ r. ⌜ (r ≡ tagSector g sector) × (now (out .exit) ≡ patch (sectorAt (now (v .entry)) (tagSector g sector)) (tagOffset g sector) (now (tag .entry))) ⌝ }
 {
     let byte = layout::tag_byte(g, sector);
@@ -56,7 +56,7 @@ pub fn home_store(
     h: usize,
     out: &mut [u8],
 ) -> usize
-    requires { ⌜ StoreOfEntry g (now section) i sector h × (needed g * 512 ≤ length (now v)) × (length (now out) ≡ 512) ⌝ }
+    requires { ⌜ StoreOfEntry g (now section) i sector h × (needed g * sectorSize ≤ length (now v)) × (length (now out) ≡ sectorSize) ⌝ }
     ensures { λ r. ⌜ record { at = r; content = now (out .exit) } ≡ homeStore g (now (v .entry)) (entryOf (g .width) (now (section .entry)) i) h ⌝ }
 {
     if h == 0 {

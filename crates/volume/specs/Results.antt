@@ -10,6 +10,7 @@ use mathlib.Core.Path.{_≡_}
 use lib.Dec.{leb}
 use lib.ListN.{length}
 use Rattle.octets.specs.Choice.{pick}
+use Rattle.octets.specs.Sectors.{sectorSize}
 use Rattle.on_disk.specs.Layout.{needed}
 use Rattle.model.specs.State.{stateOk, volumeLoanOk}
 use Rattle.model.specs.Refusal.{stepAnswer}
@@ -36,6 +37,6 @@ abbrev pub Scanned : Advanced → ℕ → List ℕ → List ℕ → Type 0
 Scanned a k v ids =
     (a .done ≡ 0)
     × (stateOk (a .state) ≡ true)
-    × (volumeLoanOk v && leb (needed (a .state .layout) * 512) (length v) ≡ true)
+    × (volumeLoanOk v && leb (needed (a .state .layout) * sectorSize) (length v) ≡ true)
     × (a .state .phase ≡ Recovering k)
     × (ids ≡ idsOf (a .state .layout) v)

@@ -36,7 +36,7 @@ fn put_tags(v: &mut [u8], first: usize, n: usize, width: usize, at: usize)
 
 // Stores run q with n data sectors, from byte at on: their tags, zeros to the end of the tag area, zero data.
 fn put_run(v: &mut [u8], g: Layout, q: usize, n: usize, at: usize)
-    requires { ⌜ (layoutOk g ≡ true) × (n ≤ runLength g) × (q ≤ mostProvided) × (at + (tagArea g + n) * 512 ≤ length (now v)) ⌝ }
+    requires { ⌜ (layoutOk g ≡ true) × (n ≤ runLength g) × (q ≤ mostProvided) × (at + (tagArea g + n) * sectorSize ≤ length (now v)) ⌝ }
     ensures { λ r. ⌜ now (v .exit) ≡ patch (now (v .entry)) at (freshRun (tagOf (g .width)) g q n) ⌝ }
 {
     put_tags(v, q * layout::run_length(g), n, g.width, at);
@@ -48,7 +48,7 @@ fn put_run(v: &mut [u8], g: Layout, q: usize, n: usize, at: usize)
 
 // Stores the first n runs, each with all its data sectors, from byte at on.
 fn put_runs(v: &mut [u8], g: Layout, n: usize, at: usize)
-    requires { ⌜ (layoutOk g ≡ true) × (n ≤ mostProvided) × (at + n * ((tagArea g + runLength g) * 512) ≤ length (now v)) ⌝ }
+    requires { ⌜ (layoutOk g ≡ true) × (n ≤ mostProvided) × (at + n * ((tagArea g + runLength g) * sectorSize) ≤ length (now v)) ⌝ }
     ensures { λ r. ⌜ now (v .exit) ≡ patch (now (v .entry)) at (collect n (λ q. freshRun (tagOf (g .width)) g q (runLength g))) ⌝ }
 {
     let sectors = layout::run_length(g);
@@ -62,8 +62,8 @@ fn put_runs(v: &mut [u8], g: Layout, n: usize, at: usize)
 
 // Stores the superblock, and zeros for the journal.
 fn put_head(v: &mut [u8], g: Layout)
-    requires { ⌜ (layoutOk g ≡ true) × (needed g * 512 ≤ length (now v)) ⌝ }
-    ensures { λ r. ⌜ now (v .exit) ≡ patch (now (v .entry)) (g .reserved * 512) (superblockOf g ++ zeros (g .sections * sectionSize (g .width) * 512)) ⌝ }
+    requires { ⌜ (layoutOk g ≡ true) × (needed g * sectorSize ≤ length (now v)) ⌝ }
+    ensures { λ r. ⌜ now (v .exit) ≡ patch (now (v .entry)) (g .reserved * sectorSize) (superblockOf g ++ zeros (g .sections * sectionSize (g .width) * sectorSize)) ⌝ }
 {
     let start = g.reserved * SECTOR_SIZE;
     let journal = layout::section_at(g, 0) * SECTOR_SIZE;
@@ -74,8 +74,8 @@ fn put_head(v: &mut [u8], g: Layout)
 
 // Stores every run; the last has only the data sectors still needed.
 fn put_tail(v: &mut [u8], g: Layout)
-    requires { ⌜ (layoutOk g ≡ true) × (needed g * 512 ≤ length (now v)) ⌝ }
-    ensures { λ r. ⌜ now (v .exit) ≡ patch (now (v .entry)) (base g * 512) (freshRuns (tagOf (g .width)) g) ⌝ }
+    requires { ⌜ (layoutOk g ≡ true) × (needed g * sectorSize ≤ length (now v)) ⌝ }
+    ensures { λ r. ⌜ now (v .exit) ≡ patch (now (v .entry)) (base g * sectorSize) (freshRuns (tagOf (g .width)) g) ⌝ }
 {
     let start = layout::section_at(g, g.sections) * SECTOR_SIZE;
     let sectors = layout::run_length(g);

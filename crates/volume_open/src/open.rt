@@ -19,6 +19,7 @@ ghost use mathlib.Core.Path.{_≡_};
 ghost use Prim.Native.Nat.{_*_, _≤_, _<_};
 ghost use lib.ListN.{length};
 ghost use Rattle.octets.specs.Choice.{firstMet};
+ghost use Rattle.octets.specs.Sectors.{sectorSize};
 ghost use Rattle.on_disk.specs.Layout.{entryCount, sectionSize, needed, layoutOk};
 ghost use Rattle.on_disk.specs.Section.{entryOf};
 ghost use Rattle.model.specs.Journal.{usedEntry, usedOf, replay};
@@ -37,7 +38,7 @@ enum Check {
 
 // Whether entry i of section k, if it is used, can be replayed.
 fn check_entry(g: Layout, section: &[u8], k: usize, i: usize) -> Check
-    requires { ⌜ (layoutOk g ≡ true) × (length (now section) ≡ sectionSize (g .width) * 512) × (i < entryCount (g .width)) ⌝ }
+    requires { ⌜ (layoutOk g ≡ true) × (length (now section) ≡ sectionSize (g .width) * sectorSize) × (i < entryCount (g .width)) ⌝ }
     ensures { λ r. ⌜ checked r ≡ entriesVerdict (tagOf (g .width)) g (usedEntry k i (entryOf (g .width) (now (section .entry)) i)) ⌝ }
 {
     let sector = section::entry_sector(section, g.width, i);
@@ -59,7 +60,7 @@ fn check_entry(g: Layout, section: &[u8], k: usize, i: usize) -> Check
 
 // Whether every used entry of section k can be replayed; else the refusal for the first that cannot.
 fn check_section(g: Layout, section: &[u8], k: usize) -> Check
-    requires { ⌜ (layoutOk g ≡ true) × (length (now section) ≡ sectionSize (g .width) * 512) ⌝ }
+    requires { ⌜ (layoutOk g ≡ true) × (length (now section) ≡ sectionSize (g .width) * sectorSize) ⌝ }
     ensures { λ r. ⌜ checked r ≡ entriesVerdict (tagOf (g .width)) g (usedOf (g .width) k (now (section .entry))) ⌝ }
 {
     let count = layout::entry_count(g.width);
@@ -77,7 +78,7 @@ fn check_section(g: Layout, section: &[u8], k: usize) -> Check
 
 // Whether every entry to be replayed can be, in replay order.
 fn check_replay(ids: &[u64; MOST_SECTIONS], v: &[u8], g: Layout) -> Check
-    requires { ⌜ (layoutOk g ≡ true) × (needed g * 512 ≤ length (now v)) × (now ids ≡ idsOf g (now v)) ⌝ }
+    requires { ⌜ (layoutOk g ≡ true) × (needed g * sectorSize ≤ length (now v)) × (now ids ≡ idsOf g (now v)) ⌝ }
     ensures { λ r. ⌜ checked r ≡ entriesVerdict (tagOf (g .width)) g (replay g (now (v .entry))) ⌝ }
 {
     let mut k = sections::next_section(ids, g.sections, 0, 0);
@@ -104,7 +105,7 @@ fn phase_for(stores: usize) -> Phase
 
 // Opens a volume whose superblock and length are as they must be.
 fn open_journal(v: &[u8], st: &mut [u8], g: Layout) -> OpenAnswer
-    requires { ⌜ (layoutOk g ≡ true) × (needed g * 512 ≤ length (now v)) × (firstMet (superblockRows g (g .reserved) (now v)) passed ≡ passed) ⌝ }
+    requires { ⌜ (layoutOk g ≡ true) × (needed g * sectorSize ≤ length (now v)) × (firstMet (superblockRows g (g .reserved) (now v)) passed ≡ passed) ⌝ }
     ensures { λ a. ⌜ record { answer = openAnswer a; staging = now (st .exit) } ≡ openWith tagOf g (g .reserved) (now (v .entry)) (now (st .entry)) ⌝ }
 {
     if !state::staging_ok(g, st) {

@@ -11,8 +11,8 @@ ghost use mathlib.Core.Path.{_≡_};
 ghost use Prim.Native.Nat.{_*_, _≤_, _<_};
 ghost use lib.ListN.{length};
 ghost use Rattle.octets.specs.Parts.{same};
-ghost use Rattle.octets.specs.Sectors.{sectorAt};
-ghost use Rattle.on_disk.specs.Layout.{entryCount, sectionSize, dataAt, needed, layoutOk};
+ghost use Rattle.octets.specs.Sectors.{sectorSize, sectorAt};
+ghost use Rattle.on_disk.specs.Layout.{mostWidth, entryCount, sectionSize, dataAt, needed, layoutOk};
 ghost use Rattle.model.specs.Tag.{tagOf, tagAt};
 ghost use Rattle.model.specs.Refusal.{readAnswer};
 ghost use Rattle.model.specs.Read.{readOf};
@@ -20,7 +20,7 @@ ghost use Rattle.model.specs.Read.{newestFor};
 
 // The place of the newest of the first c staged entries for a sector; c where there is none.
 fn newest_for(st: &[u8], t: usize, c: usize, sector: usize) -> usize
-    requires { ⌜ (t ≤ 32) × (c ≤ entryCount t) × (length (now st) ≡ sectionSize t * 512) ⌝ }
+    requires { ⌜ (t ≤ mostWidth) × (c ≤ entryCount t) × (length (now st) ≡ sectionSize t * sectorSize) ⌝ }
     ensures { λ r. ⌜ r ≡ newestFor t (now (st .entry)) c c sector ⌝ }
 {
     let mut i = c;
@@ -35,7 +35,7 @@ fn newest_for(st: &[u8], t: usize, c: usize, sector: usize) -> usize
 
 // Whether the tag of a sector fits its data.
 fn tag_fits(v: &[u8], g: Layout, sector: usize) -> bool
-    requires { ⌜ (layoutOk g ≡ true) × (needed g * 512 ≤ length (now v)) × (sector < g .provided) ⌝ }
+    requires { ⌜ (layoutOk g ≡ true) × (needed g * sectorSize ≤ length (now v)) × (sector < g .provided) ⌝ }
     ensures { λ r. ⌜ r ≡ same (tagAt g (now (v .entry)) sector) (tagOf (g .width) sector (sectorAt (now (v .entry)) (dataAt g sector))) ⌝ }
 {
     let start = layout::data_at(g, sector) * SECTOR_SIZE;

@@ -19,6 +19,7 @@ ghost use mathlib.Core.Path.{_≡_};
 ghost use Prim.Native.Nat.{ℕ, _*_, _<_};
 ghost use lib.Dec.{leb};
 ghost use lib.ListN.{length};
+ghost use Rattle.octets.specs.Sectors.{sectorSize};
 ghost use Rattle.on_disk.specs.Layout.{needed};
 ghost use Rattle.model.specs.State.{lastId, volumeLoanOk, stateOk, volumeOk, stagingOk};
 ghost use Rattle.model.specs.Step.{stepOf};
@@ -29,7 +30,7 @@ ghost use Rattle.volume_step.specs.Results.{Fills};
 
 // Sector j of the section, with the id put in; by the last the batch is acknowledged.
 fn commit_step(s: State, st: &[u8], j: usize, out: &mut [u8]) -> Stepped
-    requires { ⌜ SectorOfCommit s (now st) j × (s .id < lastId) × (length (now out) ≡ 512) ⌝ }
+    requires { ⌜ SectorOfCommit s (now st) j × (s .id < lastId) × (length (now out) ≡ sectorSize) ⌝ }
     ensures { λ r. ⌜ ((v : List ℕ) → Fills (now (out .entry)) (commitStep s v (now (st .entry)) j) r (now (out .exit)) (now (st .entry))) ⌝ }
 {
     let g = s.layout;
@@ -51,7 +52,7 @@ fn commit_step(s: State, st: &[u8], j: usize, out: &mut [u8]) -> Stepped
 
 // Store h of staged entry i; after the last of all staging is empty and the volume is filling.
 fn write_back_step(s: State, v: &[u8], st: &mut [u8], i: usize, h: usize, out: &mut [u8]) -> Stepped
-    requires { ⌜ (stateOk s ≡ true) × (volumeOk s (now v) ≡ true) × (stagingOk (s .layout) (now st) ≡ true) × (s .phase ≡ Phase.WritingBack i h) × (length (now out) ≡ 512) ⌝ }
+    requires { ⌜ (stateOk s ≡ true) × (volumeOk s (now v) ≡ true) × (stagingOk (s .layout) (now st) ≡ true) × (s .phase ≡ Phase.WritingBack i h) × (length (now out) ≡ sectorSize) ⌝ }
     ensures { λ r. ⌜ Fills (now (out .entry)) (stepOf s (now (v .entry)) (now (st .entry))) r (now (out .exit)) (now (st .exit)) ⌝ }
 {
     let g = s.layout;
@@ -72,7 +73,7 @@ fn write_back_step(s: State, v: &[u8], st: &mut [u8], i: usize, h: usize, out: &
 
 // Store k of the replay. One scan of the journal tells whether there is one, and where.
 fn scan_step(s: State, v: &[u8], k: usize, out: &mut [u8]) -> Stepped
-    requires { ⌜ (stateOk s ≡ true) × (volumeLoanOk (now v) && leb (needed (s .layout) * 512) (length (now v)) ≡ true) × (s .phase ≡ Phase.Recovering k) × (length (now out) ≡ 512) ⌝ }
+    requires { ⌜ (stateOk s ≡ true) × (volumeLoanOk (now v) && leb (needed (s .layout) * sectorSize) (length (now v)) ≡ true) × (s .phase ≡ Phase.Recovering k) × (length (now out) ≡ sectorSize) ⌝ }
     ensures { λ r. ⌜ ((st : List ℕ) → stagingOk (s .layout) st ≡ true → Fills (now (out .entry)) (stepOf s (now (v .entry)) st) r (now (out .exit)) st) ⌝ }
 {
     let g = s.layout;

@@ -16,6 +16,7 @@ ghost use mathlib.Core.List.{List};
 ghost use mathlib.Core.Path.{_≡_};
 ghost use Prim.Native.Nat.{ℕ, _*_, _≤_, _<_};
 ghost use lib.ListN.{length};
+ghost use Rattle.octets.specs.Sectors.{sectorSize};
 ghost use Rattle.on_disk.specs.Layout.{entryCount, needed, layoutOk};
 ghost use Rattle.on_disk.specs.Section.{entryOf};
 ghost use Rattle.model.specs.Journal.{sectionOf};
@@ -29,7 +30,7 @@ ghost use Rattle.volume_step.specs.Results.{recovered, Fills};
 
 // The logical sector of the entry that x names.
 pub fn sector_of(v: &[u8], g: Layout, x: Location) -> u64
-    requires { ⌜ (layoutOk g ≡ true) × (needed g * 512 ≤ length (now v)) × (x .section < g .sections) × (x .entry < entryCount (g .width)) ⌝ }
+    requires { ⌜ (layoutOk g ≡ true) × (needed g * sectorSize ≤ length (now v)) × (x .section < g .sections) × (x .entry < entryCount (g .width)) ⌝ }
     ensures { λ r. ⌜ r ≡ entryOf (g .width) (sectionOf g (now (v .entry)) (x .section)) (x .entry) .sector ⌝ }
 {
     section::entry_sector(sections::section_of(v, g, x.section), g.width, x.entry)
@@ -54,7 +55,7 @@ pub(crate) fn next_store(
     more: bool,
     out: &mut [u8],
 ) -> Stepped
-    requires { ⌜ StepOfRecovery s (now v) k x more × (length (now out) ≡ 512) ⌝ }
+    requires { ⌜ StepOfRecovery s (now v) k x more × (length (now out) ≡ sectorSize) ⌝ }
     ensures { λ r. ⌜ ((st : List ℕ) → stagingOk (s .layout) st ≡ true → Fills (now (out .entry)) (stepOf s (now (v .entry)) st) r (now (out .exit)) st) ⌝ }
 {
     let g = s.layout;
@@ -76,7 +77,7 @@ pub fn replayed_part(
     sector: usize,
     content: &mut [u8; SECTOR_SIZE],
 ) -> Part
-    requires { ⌜ StoreOfEntry g (sectionOf g (now v) (x .section)) (x .entry) sector (x .store) × (needed g * 512 ≤ length (now v)) × (x .section < g .sections) ⌝ }
+    requires { ⌜ StoreOfEntry g (sectionOf g (now v) (x .section)) (x .entry) sector (x .store) × (needed g * sectorSize ≤ length (now v)) × (x .section < g .sections) ⌝ }
     ensures { λ r. ⌜ Changes (now (v .entry)) (homeStore g (now (v .entry)) (entryOf (g .width) (sectionOf g (now (v .entry)) (x .section)) (x .entry)) (x .store)) r (now (content .exit)) ⌝ }
 {
     let section = sections::section_of(v, g, x.section);

@@ -6,7 +6,7 @@ ghost use mathlib.Core.Path.{_≡_};
 ghost use Prim.Native.Nat.{_+_, _*_, _≤_};
 ghost use lib.ListN.{length};
 ghost use Rattle.octets.specs.Parts.{part, patch};
-ghost use Rattle.octets.specs.Sectors.{putSector};
+ghost use Rattle.octets.specs.Sectors.{sectorSize, putSector};
 ghost use Rattle.model.specs.Refusal.{stepAnswer};
 ghost use Rattle.model.specs.NextStore.{storeNamed};
 ghost use Rattle.volume_step.specs.Results.{Inside};
@@ -21,7 +21,7 @@ pub fn put_part(v: &mut [u8], byte: usize, content: &[u8], n: usize)
 
 // Stores a sector.
 fn put(v: &mut [u8], at: usize, content: &[u8; SECTOR_SIZE])
-    requires { ⌜ (at + 1) * 512 ≤ length (now v) ⌝ }
+    requires { ⌜ (at + 1) * sectorSize ≤ length (now v) ⌝ }
     ensures { λ r. ⌜ now (v .exit) ≡ putSector (now (v .entry)) at (now (content .entry)) ⌝ }
 {
     put_part(v, at * SECTOR_SIZE, content, SECTOR_SIZE);

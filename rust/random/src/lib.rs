@@ -70,7 +70,8 @@ pub struct Lent {
 }
 
 impl Lent {
-    const MARGIN: usize = 64;
+    // Odd, so that a buffer starts at an odd address: no alignment is asked.
+    const MARGIN: usize = 61;
 
     /// A buffer of random bytes.
     pub fn new(random: &mut Random, length: usize) -> Lent {
