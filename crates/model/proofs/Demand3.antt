@@ -20,7 +20,7 @@ use Rattle.octets.proofs.Parts.{eq-same}
 use Rattle.octets.proofs.Sectors.{sector-part}
 use Rattle.model.specs.Layout.{mostSectors, sectionSize, sectionAt, dataAt}
 use Rattle.model.specs.Section.{idOf, entryOf, emptySection, greatestIn}
-use Rattle.model.specs.Journal.{greatestId, dueIds, sectionOf, wholeIds, ordered, replayIn, replay}
+use Rattle.model.specs.Journal.{greatestId, dueIds, sectionOf, wholeIds, replayIn, replay}
 use Rattle.model.specs.State.{sectorOk, passed}
 use Rattle.model.specs.Tag.{Tag, Tags, tagOf, tagAt}
 use Rattle.model.specs.Read.{newestFor, readRows, readOf}
@@ -39,6 +39,7 @@ use Rattle.model.specs.Demand3.{Agrees, Demand3, Demand3Sha256}
 use Rattle.model.proofs.Formats.{Fresh, format-layout, format-fresh}
 use Rattle.model.proofs.Replays.{lastFor-append, Which, which, isTrue, isFalse}
 use Rattle.model.proofs.Sections.{per-pos}
+use Rattle.model.proofs.Order.{ordered-none}
 use Rattle.model.proofs.Journals.{due-le, top-least, writeOfEntry, batchOf, top-le, whole-le}
 use Rattle.model.proofs.Addresses.{and-both, ranged, section-low}
 use Rattle.model.proofs.Homes.{Home}
@@ -51,10 +52,6 @@ use Rattle.model.proofs.Opens.{open-runs, query-holds, open-keeps}
 use Rattle.model.specs.declared.Layout.{Layout}
 use Rattle.model.specs.declared.Phase.the-variants.{Filling}
 use Rattle.model.specs.declared.State.{State}
-
-ordered-none : (n : ℕ) (ids : ℕ → ℕ) → ((k : ℕ) → k < n → ids k ≡ 0) → ordered n ids ≡ []
-ordered-none zero ids h = refl
-ordered-none (suc n) ids h = rw (eq-eqb (ids n) 0 (h n (omega arith))) (ordered-none n ids (λ k l. h k (omega arith)))
 
 -- the newest of the first m staged entries for a sector: none, or one whose bytes are the last
 data Search (t : ℕ) (st : List ℕ) (d m s : ℕ) (z : List ℕ) : Type 0 where
