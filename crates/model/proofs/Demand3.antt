@@ -275,11 +275,11 @@ demand3 tags g sz v e es q =
     agrees tags g v₀ X _ _ (lasts tags g v₀ X (begin v₀) start es (starts tags g v₀ X F)) q
 
 -- the tag of R14 has T bytes, for every T in range
-tag-length : (t : ℕ) → t ≤ 32 → (s : ℕ) (b : List ℕ) → length (tagOf t s b) ≡ t
-tag-length t h s b = length-take-le t (sha256 (le 8 s ++ b)) (rw (length-sha256 (le 8 s ++ b)) h)
+pub length-tagOf : (t : ℕ) → t ≤ 32 → (s : ℕ) (b : List ℕ) → length (tagOf t s b) ≡ t
+length-tagOf t h s b = length-take-le t (sha256 (le 8 s ++ b)) (rw (length-sha256 (le 8 s ++ b)) h)
 
 pub formatted-length : (g : Layout) (v : List ℕ) → formatOf tagOf g v .answer ≡ passed → (s : ℕ) (b : List ℕ) → length (tagOf (g .width) s b) ≡ g .width
-formatted-length g v e = tag-length (g .width) (ranged g (format-layout tagOf g v e) .t .bound)
+formatted-length g v e = length-tagOf (g .width) (ranged g (format-layout tagOf g v e) .t .bound)
 
 pub demand3-sha256 : Demand3Sha256
 demand3-sha256 g v e = demand3 tagOf g (formatted-length g v e) v e
