@@ -8,12 +8,12 @@ use lib.Seq.{take-all, take-at, drop-drop}
 use Rattle.octets.specs.Numbers.{Bytes, le, value}
 use Rattle.octets.specs.Parts.{part}
 use Rattle.octets.proofs.Numbers.{length-le, bytes-le, value-le, le-value, value-bound}
-use Rattle.octets.proofs.Parts.{length-part, part-all, bytes-append, bytes-part}
+use Rattle.octets.proofs.Parts.{length-part, part-all, part-behind, bytes-append, bytes-part}
 use Rattle.digest.specs.declared.State.{State}
 use Rattle.c_numbers.specs.Sizes.{digestStateSize}
 use Rattle.c_digest.specs.DigestState.{tailAt, countAt, wordsOf, wordBytesOf, decodeOf, encodeOf, IsState}
 use Rattle.c_digest.specs.Theorems.{DecodeEncode, EncodeBytes, EncodeDecode, DecodeState}
-use Rattle.c_numbers.proofs.NumberBytes.{part-behind, length-number-bytes, bytes-number-bytes, numbers-of-bytes, bytes-of-numbers, length-numbers, numbers-below}
+use Rattle.c_numbers.proofs.NumberBytes.{length-number-bytes, bytes-number-bytes, numbers-of-bytes, bytes-of-numbers, length-numbers, numbers-below}
 
 module _ (s : State) (v : IsState s) where
   length-front : length (wordBytesOf (s .words)) ≡ tailAt
@@ -36,15 +36,15 @@ module _ (s : State) (v : IsState s) where
   tail-back : part (encodeOf s) tailAt 64 ≡ s .tail
   unfolding encodeOf
   tail-back =
-      part-behind (wordBytesOf (s .words)) (s .tail ++ le 8 (s .count)) 0 64 tailAt (omega (arith, length-front))
+      part-behind (wordBytesOf (s .words)) (s .tail ++ le 8 (s .count)) tailAt 0 64 length-front
       ∙ take-at (s .tail) (le 8 (s .count)) 64 (v .full)
 
   count-back : value (part (encodeOf s) countAt 8) ≡ s .count
   unfolding encodeOf
   count-back =
       ap value
-      (part-behind (wordBytesOf (s .words)) (s .tail ++ le 8 (s .count)) 64 8 countAt (omega (arith, length-front))
-      ∙ part-behind (s .tail) (le 8 (s .count)) 0 8 64 (omega (arith, v .full))
+      (part-behind (wordBytesOf (s .words)) (s .tail ++ le 8 (s .count)) tailAt 64 8 length-front
+      ∙ part-behind (s .tail) (le 8 (s .count)) 64 0 8 (v .full)
       ∙ part-all (le 8 (s .count)) 8 (length-le 8 (s .count)))
       ∙ value-le 8 (s .count) (v .count)
 

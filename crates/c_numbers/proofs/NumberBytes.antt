@@ -1,5 +1,5 @@
 -- Numbers of one width and their bytes, and numbers written one behind the other.
-use Prim.Native.Nat.{ℕ, zero, suc, _+_, _-_, _*_, _^_, _≤_, _<_}
+use Prim.Native.Nat.{ℕ, zero, suc, _+_, _*_, _^_, _≤_, _<_}
 use native.Mathlib.Omega.{arith}
 use mathlib.Core.List.{List, [], _∷_, _++_, append-assoc, append-nil}
 use mathlib.Core.Path.{_≡_, refl, sym, ap, _∙_}
@@ -8,14 +8,8 @@ use lib.Seq.{take-suc, take-at, take-add}
 use Rattle.octets.specs.Numbers.{Bytes, le, value}
 use Rattle.octets.specs.Parts.{part, patch}
 use Rattle.octets.proofs.Numbers.{bytes-nil, length-le, bytes-le, value-le, le-value, value-bound}
-use Rattle.octets.proofs.Parts.{length-part, part-append-right, bytes-append, bytes-part, patch-join, patch-all}
+use Rattle.octets.proofs.Parts.{length-part, part-behind, bytes-append, bytes-part, patch-join, patch-all}
 use Rattle.c_numbers.specs.Numbers.{numbersIn, numberBytes}
-
--- a part of the second of two lists, by its index there
-pub part-behind : (p q : List ℕ) (a n b : ℕ) → length p + a ≡ b → part (p ++ q) b n ≡ part q a n
-part-behind p q a n b e =
-    let k : b - length p ≡ a = omega arith in
-    part-append-right p q b n (omega arith) ∙ ap (λ (i : ℕ). part q i n) k
 
 pub length-number-bytes : (w : ℕ) (ns : List ℕ) → length (numberBytes w ns) ≡ w * length ns
 unfolding numberBytes
@@ -48,11 +42,10 @@ number-at w (n ∷ ns) q zero l =
     let e : w * 0 ≡ 0 = omega arith in
     rw (e, append-assoc (le w n) (numberBytes w ns) q) (take-at (le w n) (numberBytes w ns ++ q) w (length-le w n))
 number-at w (n ∷ ns) q (suc k) l =
-    let size : length (le w n) ≡ w = length-le w n in
-    let e : w + w * k ≡ w * suc k = omega arith in
-    ap (λ (l : List ℕ). part l (w * suc k) w) (append-assoc (le w n) (numberBytes w ns) q)
-    ∙ part-behind (le w n) (numberBytes w ns ++ q) (w * k) w (w * suc k) (omega (arith, size, e))
-    ∙ number-at w ns q k (omega arith)
+    let e : w * suc k ≡ w + w * k = omega arith in
+    rw (e, append-assoc (le w n) (numberBytes w ns) q)
+    (part-behind (le w n) (numberBytes w ns ++ q) w (w * k) w (length-le w n)
+    ∙ number-at w ns q k (omega arith))
 
 -- numbers are read back from their bytes
 pub numbers-of-bytes : (w n : ℕ) (ns q : List ℕ) → ((i : ℕ) → getD ns i 0 < 256 ^ w) → n ≤ length ns → numbersIn w n (numberBytes w ns ++ q) ≡ take n ns

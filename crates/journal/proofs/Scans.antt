@@ -18,7 +18,8 @@ use Rattle.model.specs.Open.{misplacedId, misplaced}
 use Rattle.on_disk.specs.declared.Layout.{Layout}
 use Rattle.journal.specs.Replay.{idsOf}
 use Rattle.journal.proofs.Walks.{getD-ids}
-use Rattle.model.proofs.Journals.{all-below, below-all, whole-all, whole-not}
+use Rattle.octets.proofs.Lists.{all-below, below-all}
+use Rattle.model.proofs.Journals.{whole-all, whole-not}
 
 -- ---- the scan of a section, left at the first sector whose id differs from that of sector 0
 

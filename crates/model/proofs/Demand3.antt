@@ -20,7 +20,7 @@ use Rattle.octets.proofs.Parts.{eq-same}
 use Rattle.octets.proofs.Sectors.{sector-part}
 use Rattle.on_disk.specs.Layout.{mostSectors, sectionSize, sectionAt, dataAt}
 use Rattle.on_disk.specs.Section.{idOf, entryOf, emptySection, greatestIn}
-use Rattle.model.specs.Journal.{greatestId, dueIds, sectionOf, wholeIds, ordered, replayIn, replay}
+use Rattle.model.specs.Journal.{greatestId, dueIds, sectionOf, wholeIds, replayIn, replay}
 use Rattle.model.specs.State.{sectorOk, passed}
 use Rattle.model.specs.Tag.{Tag, Tags, tagOf, tagAt}
 use Rattle.model.specs.Read.{newestFor, readRows, readOf}
@@ -39,6 +39,7 @@ use Rattle.model.specs.Demand3.{Agrees, Demand3, Demand3Sha256}
 use Rattle.model.proofs.Formats.{Fresh, format-layout, format-fresh}
 use Rattle.model.proofs.Replays.{lastFor-append, Which, which, isTrue, isFalse}
 use Rattle.on_disk.proofs.Sections.{per-pos}
+use Rattle.model.proofs.Order.{ordered-none}
 use Rattle.model.proofs.Journals.{due-le, top-least, writeOfEntry, batchOf, top-le, whole-le}
 use Rattle.on_disk.proofs.Addresses.{and-both, ranged, section-low}
 use Rattle.model.proofs.Homes.{Home}
@@ -51,10 +52,6 @@ use Rattle.model.proofs.Opens.{open-runs, query-holds, open-keeps}
 use Rattle.on_disk.specs.declared.Layout.{Layout}
 use Rattle.model.specs.declared.Phase.the-variants.{Filling}
 use Rattle.model.specs.declared.State.{State}
-
-ordered-none : (n : ℕ) (ids : ℕ → ℕ) → ((k : ℕ) → k < n → ids k ≡ 0) → ordered n ids ≡ []
-ordered-none zero ids h = refl
-ordered-none (suc n) ids h = rw (eq-eqb (ids n) 0 (h n (omega arith))) (ordered-none n ids (λ k l. h k (omega arith)))
 
 -- the newest of the first m staged entries for a sector: none, or one whose bytes are the last
 data Search (t : ℕ) (st : List ℕ) (d m s : ℕ) (z : List ℕ) : Type 0 where
@@ -278,11 +275,11 @@ demand3 tags g sz v e es q =
     agrees tags g v₀ X _ _ (lasts tags g v₀ X (begin v₀) start es (starts tags g v₀ X F)) q
 
 -- the tag of R14 has T bytes, for every T in range
-tag-length : (t : ℕ) → t ≤ 32 → (s : ℕ) (b : List ℕ) → length (tagOf t s b) ≡ t
-tag-length t h s b = length-take-le t (sha256 (le 8 s ++ b)) (rw (length-sha256 (le 8 s ++ b)) h)
+pub length-tagOf : (t : ℕ) → t ≤ 32 → (s : ℕ) (b : List ℕ) → length (tagOf t s b) ≡ t
+length-tagOf t h s b = length-take-le t (sha256 (le 8 s ++ b)) (rw (length-sha256 (le 8 s ++ b)) h)
 
 pub formatted-length : (g : Layout) (v : List ℕ) → formatOf tagOf g v .answer ≡ passed → (s : ℕ) (b : List ℕ) → length (tagOf (g .width) s b) ≡ g .width
-formatted-length g v e = tag-length (g .width) (ranged g (format-layout tagOf g v e) .t .bound)
+formatted-length g v e = length-tagOf (g .width) (ranged g (format-layout tagOf g v e) .t .bound)
 
 pub demand3-sha256 : Demand3Sha256
 demand3-sha256 g v e = demand3 tagOf g (formatted-length g v e) v e

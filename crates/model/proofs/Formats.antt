@@ -1,19 +1,19 @@
 -- What format leaves, and that it is a formatted volume in the sense of demand 3.
 use Prim.Native.Nat.{ℕ, suc, _+_, _-_, _*_, _/_, _%_, _≤_, _<_}
 use mathlib.Core.Bool.{true}
-use mathlib.Core.Path.{_≡_, refl, sym, ap, _∙_, subst}
+use mathlib.Core.Path.{_≡_, refl, sym, ap, _∙_}
 use mathlib.Core.List.{List, _++_}
 use native.Mathlib.Omega.{arith}
 use native.Mathlib.Decide.{decLt, ℕ-discrete}
 use native.Mathlib.Nat.{mul-le-mul-right, suc-mul, mod-lt, div-add-mod', mul-assoc}
 use lib.Pow.{pow-pos}
 use lib.ListN.{length, take, drop, replicate, length-append, length-drop, length-replicate}
-use lib.Seq.{take-at, length-take-le, drop-append-add}
+use lib.Seq.{take-at, length-take-le}
 use borrow.Author.Tests.{ltb-false}
 use Rattle.octets.specs.Numbers.{le}
 use Rattle.octets.specs.Parts.{part}
 use Rattle.octets.specs.Sectors.{sectorAt}
-use Rattle.octets.proofs.Parts.{part-append-left, take-replicate, drop-replicate, part-part}
+use Rattle.octets.proofs.Parts.{part-append-left, part-behind, take-replicate, drop-replicate, part-part}
 use Rattle.on_disk.specs.Layout.{sectionSize, sectionAt, base, runLength, tagArea, dataAt, tagByte, needed, layoutOk}
 use Rattle.octets.specs.Lists.{collect}
 use Rattle.on_disk.specs.Superblock.{superblockOf, superblockAt}
@@ -37,9 +37,6 @@ pub record Fresh (tag : Tag) (g : Layout) (v : List ℕ) : Type 0 where
   pub journal : (a : ℕ) → sectionAt g 0 ≤ a → a < sectionAt g (g .sections) → sectorAt v a ≡ replicate 512 0
   pub zero-data : (s : ℕ) → s < g .provided → sectorAt v (dataAt g s) ≡ replicate 512 0
   pub tags : (s : ℕ) → s < g .provided → tagAt g v s ≡ tag s (replicate 512 0)
-
-part-behind : (a b : List ℕ) (n x m : ℕ) → length a ≡ n → part (a ++ b) (n + x) m ≡ part b x m
-part-behind a b n x m e = ap (take m) (subst (λ (k : ℕ). drop (k + x) (a ++ b) ≡ drop x b) e (drop-append-add a b x))
 
 part-zeros : (n x m : ℕ) → x + m ≤ n → part (zeros n) x m ≡ zeros m
 part-zeros n x m h = ap (take m) (drop-replicate x n 0 (omega arith)) ∙ take-replicate m (n - x) 0 (omega arith)

@@ -16,10 +16,11 @@ use Rattle.octets.specs.Sectors.{sectorAt}
 use Rattle.on_disk.specs.Layout.{perSector, entryCount, sectionSize, sectionAt, base}
 use Rattle.on_disk.specs.Section.{Entry, unused, idOf, entryOf, wholeId, greatestIn}
 use Rattle.octets.specs.Lists.{allBelow, greatest, collect}
+pub use Rattle.octets.proofs.Lists.{all-below, below-all}
 use Rattle.model.specs.Journal.{sealed, sectionOf, greatestId, dueIds, Found, insert, ordered, wholeIds, Replayed, usedEntry, usedOf, replayIn, replay}
 use Rattle.model.specs.Ledger.{Write}
 use Rattle.on_disk.proofs.Sections.{length-withId, id-withId, entry-stamped}
-use Rattle.on_disk.proofs.Addresses.{and-both, section-order}
+use Rattle.on_disk.proofs.Addresses.{section-order}
 use Rattle.model.proofs.Replays.{Which, isTrue, isFalse, which}
 use Rattle.model.proofs.Order.{ordered-cong, ordered-comes, ordered-goes}
 use Rattle.on_disk.specs.declared.Layout.{Layout}
@@ -43,18 +44,6 @@ greatest-cong zero f h e = refl
 greatest-cong (suc n) f h e = rw (e n (omega arith), greatest-cong n f h (λ j l. e j (omega arith)))
 
 -- ---- whole sections
-
-pub all-below : (n : ℕ) (f : ℕ → Bool) → ((j : ℕ) → j < n → f j ≡ true) → allBelow n f ≡ true
-all-below zero f h = refl
-all-below (suc n) f h = rw (all-below n f (λ j l. h j (omega arith)), h n (omega arith))
-
-pub below-all : (n : ℕ) (f : ℕ → Bool) → allBelow n f ≡ true → (j : ℕ) → j < n → f j ≡ true
-below-all zero f e j l = absurd (omega arith)
-below-all (suc n) f e j l = go (below-all n f (and-both (allBelow n f) (f n) e .0) j) (ℕ-discrete j n)
-  where
-    go : (j < n → f j ≡ true) → Dec (j ≡ n) → f j ≡ true
-    go ih (yes q) = rw q (and-both (allBelow n f) (f n) e .1)
-    go ih (no q) = ih (omega arith)
 
 module _ (t : ℕ) (sec : List ℕ) where
   pub whole-all : (n : ℕ) → ((j : ℕ) → j < sectionSize t → idOf (sectorAt sec j) ≡ n) → wholeId t sec ≡ n

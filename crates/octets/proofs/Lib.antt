@@ -1,5 +1,6 @@
 pub mod Numbers
 pub mod Parts
+pub mod Lists
 pub mod Slices
 pub mod Sectors
 pub mod Choice

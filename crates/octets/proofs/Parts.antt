@@ -54,6 +54,10 @@ drop-past p q b h =
 pub part-append-right : (p q : List ℕ) (b n : ℕ) → length p ≤ b → part (p ++ q) b n ≡ part q (b - length p) n
 part-append-right p q b n h = ap (take n) (drop-past p q b h)
 
+-- the same, by its index there
+pub part-behind : (p q : List ℕ) (a b n : ℕ) → length p ≡ a → part (p ++ q) (a + b) n ≡ part q b n
+part-behind p q a b n e = ap (take n) (subst (λ (k : ℕ). drop (k + b) (p ++ q) ≡ drop b q) e (drop-append-add p q b))
+
 -- ---- a patch that fits
 
 module _ (l : List ℕ) (at : ℕ) (s : List ℕ) (fits : at + length s ≤ length l) where

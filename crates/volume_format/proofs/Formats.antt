@@ -7,20 +7,18 @@ use native.Mathlib.Nat.{mul-le-mul-right, mul-le-mul-left, mul-assoc, suc-mul, m
 use native.Mathlib.Numerals.{add-one}
 use native.Mathlib.Omega.{arith}
 use lib.ListN.{length, take, drop, replicate, length-append, length-replicate, take-append-drop}
-use lib.Seq.{length-take-le, drop-drop}
+use lib.Seq.{drop-drop}
 use borrow.Author.Tests.{lt-ltb, le-ltb}
 use Rattle.octets.specs.Answer.{refuse}
-use Rattle.octets.specs.Numbers.{le}
 use Rattle.octets.specs.Parts.{patch}
 use Rattle.octets.specs.Sectors.{sectorSize}
 use Rattle.octets.proofs.Parts.{patch-join}
-use Rattle.digest.specs.Sha256.{sha256}
-use Rattle.digest.specs.Sha256.Promise.{length-sha256}
 use Rattle.on_disk.specs.declared.Layout.{Layout}
 use Rattle.on_disk.specs.Layout.{mostProvided, sectionSize, sectionAt, base, runLength, tagArea, needed, layoutOk}
 use Rattle.on_disk.specs.Superblock.{superblockOf, superblockAt, isZero}
 use Rattle.model.specs.State.{passed, volumeLoanOk}
 use Rattle.on_disk.proofs.Addresses.{Ranged, ranged, base-room}
+use Rattle.model.proofs.Demand3.{length-tagOf}
 use Rattle.model.proofs.Formats.{super-length}
 use Rattle.octets.specs.Lists.{collect}
 use Rattle.model.specs.Tag.{Tags, tagOf}
@@ -47,10 +45,6 @@ chunk-turn f z v₀ v at i x r size fits ev ex er =
     let last : length (f i) ≡ z = size i in
     let place : at + i * z ≡ at + length (collect i f) = omega arith in
     rw (er, ev, ex, place, patch-join v₀ at (collect i f) (f i) (omega arith), add-one)
-
--- a tag has T bytes
-pub tag-size : (t : ℕ) → t ≤ 32 → (s : ℕ) (b : List ℕ) → length (tagOf t s b) ≡ t
-tag-size t h s b = length-take-le t (sha256 (le 8 s ++ b)) (rw (length-sha256 (le 8 s ++ b)) h)
 
 -- ---- a run
 
@@ -82,7 +76,7 @@ module _ (g : Layout) (ok : layoutOk g ≡ true) where
       let D : List ℕ = zeros (n * 512) in
       let t : length (freshTags (tagOf (g .width)) g q n) ≡ n * g .width =
       length-collect (λ i. tagOf (g .width) (q * runLength g + i) (zeros sectorSize)) (g .width) n
-      (λ i l. tag-size (g .width) (width-high g ok) (q * runLength g + i) (zeros sectorSize)) in
+      (λ i l. length-tagOf (g .width) (width-high g ok) (q * runLength g + i) (zeros sectorSize)) in
       let z : length (zeros (tagArea g * 512 - n * g .width)) ≡ tagArea g * 512 - n * g .width = length-replicate (tagArea g * 512 - n * g .width) 0 in
       let d : length (zeros (n * 512)) ≡ n * 512 = length-replicate (n * 512) 0 in
       let room : n * g .width ≤ tagArea g * 512 = tags-room n h in
@@ -100,7 +94,7 @@ module _ (g : Layout) (ok : layoutOk g ≡ true) where
   run-size q n h =
       let t : length (freshTags (tagOf (g .width)) g q n) ≡ n * g .width =
       length-collect (λ i. tagOf (g .width) (q * runLength g + i) (zeros sectorSize)) (g .width) n
-      (λ i l. tag-size (g .width) (width-high g ok) (q * runLength g + i) (zeros sectorSize)) in
+      (λ i l. length-tagOf (g .width) (width-high g ok) (q * runLength g + i) (zeros sectorSize)) in
       let z : length (zeros (tagArea g * 512 - n * g .width)) ≡ tagArea g * 512 - n * g .width = length-replicate (tagArea g * 512 - n * g .width) 0 in
       let d : length (zeros (n * 512)) ≡ n * 512 = length-replicate (n * 512) 0 in
       omega (

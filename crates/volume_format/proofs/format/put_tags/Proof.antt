@@ -3,12 +3,13 @@ use mathlib.Core.Path.{refl, ap, _∙_, _≡_}
 use native.Mathlib.Omega.{arith}
 use lib.ListN.{replicate, length, take}
 use borrow.Author.Needs.{needs}
+use Rattle.model.proofs.Demand3.{length-tagOf}
 use Rattle.model.specs.Format.{zeros}
 use Rattle.model.specs.Tag.{tagOf}
 use Rattle.octets.specs.Lists.{collect}
 use Rattle.octets.specs.Sectors.{sectorSize}
 use Rattle.octets.specs.Parts.{part, patch}
-use Rattle.volume_format.proofs.Formats.{chunk-fits, patch-nil, chunk-turn, tag-size}
+use Rattle.volume_format.proofs.Formats.{chunk-fits, patch-nil, chunk-turn}
 use Rattle.volume_format.proofs.format.put_tags.Statement.{statement}
 use Rattle.volume_format.proofs.format.put_tags.Tie as tie
 
@@ -44,7 +45,7 @@ loop-again c =
       turn .inv .4,
       c .before .before .copy-at .kept .0 ∙ turn .inv .5,
       chunk-turn (λ i. tagOf (a .width) (a .first + i) (zeros sectorSize)) (a .width) (a .v .now) (turn .v) (a .at) (turn .i) _ (c .before .before .copy-at .last .0)
-          (λ j. tag-size (a .width) (omega arith) (a .first + j) (zeros sectorSize)) (omega (arith, chunk-fits (a .width) (turn .i) (a .n) (omega arith))) (turn .inv .6) stored (c .before .before .copy-at .ensures),
+          (λ j. length-tagOf (a .width) (omega arith) (a .first + j) (zeros sectorSize)) (omega (arith, chunk-fits (a .width) (turn .i) (a .n) (omega arith))) (turn .inv .6) stored (c .before .before .copy-at .ensures),
     )
 
 returns : tie.Need-returns Inv-loop μ-loop
