@@ -14,7 +14,7 @@ use Rattle.model.specs.Write.{WriteResult, writeOf}
 use Rattle.model.specs.Flush.{FlushResult, flushOf}
 use Rattle.c_numbers.specs.Called.{Called, called, Keeps}
 use Rattle.c_volume_state.specs.VolumeState.{encodeOf, decodeOf, encodesState}
-use Rattle.c_replies.specs.Replies.{leaves, plainReply, flushReply}
+use Rattle.c_replies.specs.Replies.{replying, plainReply, flushReply}
 
 -- ---- write
 
@@ -23,7 +23,7 @@ pub record WriteBuffers : Type 0 where
   pub staging : List ℕ
 
 abbrev pub writeLeaves : WriteResult → Called WriteBuffers
-writeLeaves o = leaves (plainReply (o .answer)) (record { state = encodeOf (o .state); staging = o .staging })
+writeLeaves o = replying (plainReply (o .answer)) (record { state = encodeOf (o .state); staging = o .staging })
 
 unfoldable pub writeCall : List ℕ → List ℕ → ℕ → List ℕ → List ℕ → Called WriteBuffers
 writeCall s st n b a =
@@ -32,7 +32,7 @@ writeCall s st n b a =
 -- ---- flush
 
 abbrev pub flushLeaves : FlushResult → Called (List ℕ)
-flushLeaves o = leaves (flushReply (o .answer)) (encodeOf (o .state))
+flushLeaves o = replying (flushReply (o .answer)) (encodeOf (o .state))
 
 unfoldable pub flushCall : List ℕ → List ℕ → Called (List ℕ)
 flushCall s a = called a (not (encodesState s)) s (flushLeaves (flushOf (decodeOf s)))

@@ -13,8 +13,9 @@ use Rattle.digest.specs.declared.State.{State}
 use Rattle.digest.specs.declared.Updated.{Updated}
 use Rattle.digest.specs.declared.Closed.{Closed}
 use Rattle.digest.specs.Answer.{answerOf}
+use Rattle.digest.specs.Sha256.{digestSize}
 use Rattle.digest.specs.Pieces.{freshOf, UpdateOutcome, updated, updateOf, DigestOutcome, closed, finishOf, digestOf}
-use Rattle.c_numbers.specs.Sizes.{digestSize, digestStateSize}
+use Rattle.c_numbers.specs.Sizes.{digestStateSize}
 use Rattle.c_numbers.specs.Outcome.{Outcome, done, wrongLength, refusedWith, answering}
 use Rattle.c_numbers.proofs.Outcomes.{length-wrong, length-right, answering-refused, answering-done}
 use Rattle.c_digest.specs.DigestState.{decodeOf, encodeOf}

@@ -8,8 +8,9 @@ use Prim.Native.Nat.{ℕ}
 use mathlib.Core.List.{List, [], _∷_}
 use lib.ListN.{length}
 use Rattle.octets.specs.Choice.{firstMet, differs}
+use Rattle.digest.specs.Sha256.{digestSize}
 use Rattle.digest.specs.Pieces.{freshOf, updateOf, finishOf, digestOf}
-use Rattle.c_numbers.specs.Sizes.{digestSize, digestStateSize}
+use Rattle.c_numbers.specs.Sizes.{digestStateSize}
 use Rattle.c_numbers.specs.Outcome.{Outcome, wrongLength, carriedOut, refusedWith, answering}
 use Rattle.c_digest.specs.DigestState.{decodeOf, encodeOf}
 

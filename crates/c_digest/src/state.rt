@@ -7,7 +7,8 @@ use digest::State;
 ghost use mathlib.Core.Path.{_≡_};
 ghost use lib.ListN.{length};
 ghost use Rattle.octets.specs.Parts.{patch};
-ghost use Rattle.c_numbers.specs.Sizes.{digestSize, digestStateSize};
+ghost use Rattle.digest.specs.Sha256.{digestSize};
+ghost use Rattle.c_numbers.specs.Sizes.{digestStateSize};
 ghost use Rattle.c_digest.specs.DigestState.{tailAt, wordsOf, wordBytesOf, encodeOf, decodeOf};
 
 // Indexes in bytes.

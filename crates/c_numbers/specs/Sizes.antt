@@ -1,15 +1,12 @@
--- The length of each kind of buffer that the C interface gives a form of its own, in bytes.
+-- The length of each kind of buffer that the C interface gives a form of its own, in bytes. That of a digest, and of a root digest, is `digestSize` of
+-- crate digest.
 --
--- digestSize                : a digest, and a root digest
 -- digestStateSize           : the state of a digest
 -- levelSize                 : a failing level of a hash tree
 -- layoutSize                : a volume's layout
 -- volumeStateSize           : a volume's state
 -- answerSize                : what a volume's call says
 use Prim.Native.Nat.{ℕ}
-
-abbrev pub digestSize : ℕ
-digestSize = 32
 
 abbrev pub digestStateSize : ℕ
 digestStateSize = 104

@@ -9,8 +9,9 @@ ghost use mathlib.Core.List.{[], _∷_};
 ghost use Prim.Native.Nat.{_+_, _*_, _≤_};
 ghost use lib.ListN.{length};
 ghost use Rattle.octets.specs.Parts.{patch};
+ghost use Rattle.digest.specs.Sha256.{digestSize};
 ghost use Rattle.c_numbers.specs.Numbers.{numberBytes, numberAt};
-ghost use Rattle.c_numbers.specs.Sizes.{digestSize, digestStateSize, levelSize, layoutSize, volumeStateSize, answerSize};
+ghost use Rattle.c_numbers.specs.Sizes.{digestStateSize, levelSize, layoutSize, volumeStateSize, answerSize};
 ghost use Rattle.c_numbers.specs.Outcome.{done, wrongLength};
 ghost use Rattle.c_numbers.specs.Called.{noValues};
 
@@ -39,8 +40,6 @@ pub fn wrong_length() -> u32
 
 // ---- lengths of buffers, in bytes
 
-const DIGEST_SIZE: usize = 32;
-
 const DIGEST_STATE_SIZE: usize = 104;
 
 const LEVEL_SIZE: usize = 4;
@@ -55,7 +54,7 @@ const ANSWER_SIZE: usize = 40;
 pub fn digest_size() -> usize
     ensures { λ r. ⌜ r ≡ digestSize ⌝ }
 {
-    DIGEST_SIZE
+    digest::DIGEST_SIZE
 }
 
 // The state of a digest.

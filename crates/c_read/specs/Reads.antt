@@ -11,10 +11,10 @@ use Rattle.model.specs.Tag.{tagOf}
 use Rattle.model.specs.Read.{ReadResult, readOf}
 use Rattle.c_numbers.specs.Called.{Called, called, Keeps}
 use Rattle.c_volume_state.specs.VolumeState.{decodeOf, encodesState}
-use Rattle.c_replies.specs.Replies.{leaves, plainReply}
+use Rattle.c_replies.specs.Replies.{replying, plainReply}
 
 abbrev pub readLeaves : ReadResult → Called (List ℕ)
-readLeaves o = leaves (plainReply (o .answer)) (o .sector)
+readLeaves o = replying (plainReply (o .answer)) (o .sector)
 
 unfoldable pub readCall : List ℕ → List ℕ → List ℕ → ℕ → List ℕ → List ℕ → Called (List ℕ)
 readCall s v st n b a = called a (not (encodesState s)) b (readLeaves (readOf tagOf (decodeOf s) v st n b))

@@ -12,7 +12,7 @@ use Rattle.model.specs.declared.StepAnswer.the-variants.{Stepped, Refused}
 use Rattle.model.specs.Refusal.{refusalOf, stepAnswer}
 use Rattle.c_replies.specs.declared.Reply.{Reply}
 use Rattle.c_numbers.specs.Numbers.{numberBytes}
-use Rattle.c_replies.specs.Replies.{answerBytesOf, carriedOut, refusedReply, withCounts, didOf, sectorOf, saysOf, stepReply}
+use Rattle.c_replies.specs.Replies.{answerBytesOf, doneReply, refusedReply, withCounts, didOf, sectorOf, saysOf, stepReply}
 use Rattle.c_numbers.specs.Sizes.{answerSize}
 use Rattle.c_numbers.proofs.NumberBytes.{all-written}
 
@@ -28,7 +28,7 @@ pub refused-as : (r q : Refusal) (n : ℕ) (x : Reply) → n ≡ refusalOf r .nu
 refused-as r q n x en eq ex = rw (ex, en, eq)
 
 module _ (a : StepAnswer) (n k : ℕ) (x : Reply) where
-  pub stepped-reply : (d : Done) (w : Says) (i j m : ℕ) → a ≡ Stepped d w → i ≡ didOf d → j ≡ sectorOf d → m ≡ saysOf w → x ≡ carriedOut i j m n k
+  pub stepped-reply : (d : Done) (w : Says) (i j m : ℕ) → a ≡ Stepped d w → i ≡ didOf d → j ≡ sectorOf d → m ≡ saysOf w → x ≡ doneReply i j m n k
       → x ≡ stepReply (stepAnswer a) n k
   stepped-reply d w i j m ea ei ej em ex = rw (ex, ea, ei, ej, em)
 

@@ -4,8 +4,8 @@
 --
 -- Reply                     : what a call says: the number that it answers, and the five numbers of its answer
 -- answerBytesOf r           : the bytes of the five numbers of the reply r
--- leaves r after            : what a call leaves that says r, and whose other buffers then hold `after`
--- carriedOut a b c d e      : the reply of a call that was carried out, with these five numbers
+-- replying r after          : what a call leaves that says r, and whose other buffers then hold `after`
+-- doneReply a b c d e       : the reply of a call that was carried out, with these five numbers
 -- refusedReply r            : the reply of a call that was refused with r: how many values are also returned, then these
 -- withCounts r n k          : the reply r with n and k as its fourth and fifth number
 -- plainReply a              : the reply to the answer a of format, write or read, which give nothing beside it
@@ -37,11 +37,11 @@ use Rattle.c_volume_state.specs.VolumeState.{layoutBytesOf, encodeOf}
 unfoldable pub answerBytesOf : Reply → List ℕ
 answerBytesOf r = numberBytes 8 (r .first ∷ r .second ∷ r .third ∷ r .fourth ∷ r .fifth ∷ [])
 
-abbrev pub leaves : {A : Type 0} → Reply → A → Called A
-leaves r after = record { number = r .number; left = after; answer = answerBytesOf r }
+abbrev pub replying : {A : Type 0} → Reply → A → Called A
+replying r after = record { number = r .number; left = after; answer = answerBytesOf r }
 
-abbrev pub carriedOut : ℕ → ℕ → ℕ → ℕ → ℕ → Reply
-carriedOut a b c d e = record { number = done; first = a; second = b; third = c; fourth = d; fifth = e }
+abbrev pub doneReply : ℕ → ℕ → ℕ → ℕ → ℕ → Reply
+doneReply a b c d e = record { number = done; first = a; second = b; third = c; fourth = d; fifth = e }
 
 abbrev pub refusedReply : Refusal ℕ → Reply
 refusedReply r =
@@ -59,22 +59,22 @@ withCounts r n k =
     record { number = r .number; first = r .first; second = r .second; third = r .third; fourth = n; fifth = k }
 
 abbrev pub plainReply : Answer ℕ (Unit {0}) → Reply
-plainReply (taken x) = carriedOut 0 0 0 0 0
+plainReply (taken x) = doneReply 0 0 0 0 0
 plainReply (refused r) = refusedReply r
 
 -- 1 where the batch is acknowledged at once, 0 where committing begins
 abbrev pub flushReply : Answer ℕ Bool → Reply
-flushReply (taken atOnce) = carriedOut (pick atOnce 1 0) 0 0 0 0
+flushReply (taken atOnce) = doneReply (pick atOnce 1 0) 0 0 0 0
 flushReply (refused r) = refusedReply r
 
 -- the stores to come
 abbrev pub openReply : Answer ℕ (State × ℕ) → Reply
-openReply (taken x) = carriedOut (x .1) 0 0 0 0
+openReply (taken x) = doneReply (x .1) 0 0 0 0
 openReply (refused r) = refusedReply r
 
 -- the bytes that staging must have
 abbrev pub queryReply : Answer ℕ (Layout × ℕ) → Reply
-queryReply (taken x) = carriedOut (x .1) 0 0 0 0
+queryReply (taken x) = doneReply (x .1) 0 0 0 0
 queryReply (refused r) = refusedReply r
 
 abbrev pub didOf : Done → ℕ
@@ -98,7 +98,7 @@ saysOf saying.Filling = fillingBit
 
 -- with two numbers more, n and k, which a refusal has too
 abbrev pub stepReply : Answer ℕ (Done × Says) → ℕ → ℕ → Reply
-stepReply (taken x) n k = carriedOut (didOf (x .0)) (sectorOf (x .0)) (saysOf (x .1)) n k
+stepReply (taken x) n k = doneReply (didOf (x .0)) (sectorOf (x .0)) (saysOf (x .1)) n k
 stepReply (refused r) n k = withCounts (refusedReply r) n k
 
 -- ---- what open and query give

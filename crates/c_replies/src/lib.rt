@@ -22,7 +22,7 @@ ghost use mathlib.Core.Path.{_≡_};
 ghost use lib.ListN.{length};
 ghost use Rattle.model.specs.Refusal.{refusalOf, formatAnswer, openAnswer, queryAnswer, writeAnswer, flushAnswer, stepAnswer, readAnswer};
 ghost use Rattle.c_numbers.specs.Sizes.{layoutSize, volumeStateSize, answerSize};
-ghost use Rattle.c_replies.specs.Replies.{answerBytesOf, carriedOut, refusedReply, withCounts, plainReply, flushReply, openReply, queryReply, didOf, sectorOf, saysOf, stepReply, openedBytes, heldBytes};
+ghost use Rattle.c_replies.specs.Replies.{answerBytesOf, doneReply, refusedReply, withCounts, plainReply, flushReply, openReply, queryReply, didOf, sectorOf, saysOf, stepReply, openedBytes, heldBytes};
 
 // What a step did.
 const IDLE: u64 = 0;
@@ -46,7 +46,7 @@ pub struct Reply {
 
 // The reply of a call that was carried out.
 fn carried_out(a: u64, b: u64, c: u64, d: u64, e: u64) -> Reply
-    ensures { λ r. ⌜ r ≡ carriedOut a b c d e ⌝ }
+    ensures { λ r. ⌜ r ≡ doneReply a b c d e ⌝ }
 {
     Reply {
         number: done(),

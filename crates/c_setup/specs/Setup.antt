@@ -20,7 +20,7 @@ use Rattle.model.specs.Query.{queryOf}
 use Rattle.c_numbers.specs.Sizes.{layoutSize, volumeStateSize}
 use Rattle.octets.specs.Choice.{differs}
 use Rattle.c_numbers.specs.Called.{Called, called, Keeps}
-use Rattle.c_replies.specs.Replies.{leaves, plainReply, openReply, queryReply, openedBytes, heldBytes}
+use Rattle.c_replies.specs.Replies.{replying, plainReply, openReply, queryReply, openedBytes, heldBytes}
 
 -- ---- format
 
@@ -28,7 +28,7 @@ abbrev pub layoutWith : ℕ → ℕ → ℕ → ℕ → ℕ → Layout
 layoutWith r h w n p = record { reserved = r; shift = h; width = w; sections = n; provided = p }
 
 abbrev pub formatLeaves : FormatResult → Called (List ℕ)
-formatLeaves o = leaves (plainReply (o .answer)) (o .volume)
+formatLeaves o = replying (plainReply (o .answer)) (o .volume)
 
 -- it tests the answer's buffer alone
 unfoldable pub formatCall : List ℕ → Layout → List ℕ → Called (List ℕ)
@@ -37,7 +37,7 @@ formatCall v g a = called a false v (formatLeaves (formatOf tagOf g v))
 -- ---- query
 
 abbrev pub queryLeaves : Answer ℕ (Layout × ℕ) → List ℕ → Called (List ℕ)
-queryLeaves o l = leaves (queryReply o) (heldBytes o l)
+queryLeaves o l = replying (queryReply o) (heldBytes o l)
 
 unfoldable pub queryCall : List ℕ → ℕ → List ℕ → List ℕ → Called (List ℕ)
 queryCall v r l a = called a (differs (length l) layoutSize) l (queryLeaves (queryOf r v) l)
@@ -49,7 +49,7 @@ pub record OpenBuffers : Type 0 where
   pub state : List ℕ
 
 abbrev pub openLeaves : OpenResult → List ℕ → Called OpenBuffers
-openLeaves o s = leaves (openReply (o .answer)) (record { staging = o .staging; state = openedBytes (o .answer) s })
+openLeaves o s = replying (openReply (o .answer)) (record { staging = o .staging; state = openedBytes (o .answer) s })
 
 unfoldable pub openCall : List ℕ → List ℕ → ℕ → List ℕ → List ℕ → Called OpenBuffers
 openCall v st r s a =

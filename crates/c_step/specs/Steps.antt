@@ -23,7 +23,7 @@ use Rattle.model.specs.Advance.{AdvanceResult, advanceOf}
 use Rattle.c_numbers.specs.Called.{Called, called, Keeps}
 use Rattle.c_volume_state.specs.VolumeState.{encodeOf, decodeOf, encodesState}
 use Rattle.c_replies.specs.declared.Reply.{Reply}
-use Rattle.c_replies.specs.Replies.{leaves, stepReply}
+use Rattle.c_replies.specs.Replies.{replying, stepReply}
 
 -- ---- step and advance
 
@@ -37,7 +37,7 @@ stepBuffers s v st = record { state = s; volume = v; staging = st }
 
 abbrev pub stepLeaves : List ℕ → StepResult → Called StepBuffers
 stepLeaves v o =
-    leaves (stepReply (o .answer) 0 0) (stepBuffers (encodeOf (o .state)) (afterEffect v (o .effect)) (o .staging))
+    replying (stepReply (o .answer) 0 0) (stepBuffers (encodeOf (o .state)) (afterEffect v (o .effect)) (o .staging))
 
 unfoldable pub stepCall : List ℕ → List ℕ → List ℕ → List ℕ → Called StepBuffers
 stepCall s v st a =
@@ -49,7 +49,7 @@ advanceReply o = stepReply (o .answer) (o .done) (pick (o .acknowledged) 1 0)
 
 -- state, volume and staging are as the steps before a refused one left them
 abbrev pub advanceLeaves : AdvanceResult → Called StepBuffers
-advanceLeaves o = leaves (advanceReply o) (stepBuffers (encodeOf (o .state)) (o .volume) (o .staging))
+advanceLeaves o = replying (advanceReply o) (stepBuffers (encodeOf (o .state)) (o .volume) (o .staging))
 
 unfoldable pub advanceCall : List ℕ → List ℕ → List ℕ → ℕ → List ℕ → Called StepBuffers
 advanceCall s v st n a =
@@ -67,7 +67,7 @@ nextStoreBuffers s st out = record { state = s; staging = st; sector = out }
 
 abbrev pub nextStoreLeaves : List ℕ → StepResult → Called NextStoreBuffers
 nextStoreLeaves out o =
-    leaves (stepReply (o .answer) 0 0) (nextStoreBuffers (encodeOf (o .state)) (o .staging) (contentOf out (o .effect)))
+    replying (stepReply (o .answer) 0 0) (nextStoreBuffers (encodeOf (o .state)) (o .staging) (contentOf out (o .effect)))
 
 unfoldable pub nextStoreCall : List ℕ → List ℕ → List ℕ → List ℕ → List ℕ → Called NextStoreBuffers
 nextStoreCall s v st out a =

@@ -13,13 +13,14 @@ use Rattle.octets.specs.Numbers.{le}
 use Rattle.octets.specs.Parts.{patch}
 use Rattle.octets.proofs.Numbers.{length-le}
 use Rattle.octets.proofs.Parts.{patch-all}
+use Rattle.digest.specs.Sha256.{digestSize}
 use Rattle.tree.specs.declared.Answer.{Answer}
 use Rattle.tree.specs.declared.Answer.the-variants.{Taken, WrongLength, OutOfRange, DataDiffers, LevelDiffers}
 use Rattle.tree.specs.declared.Built.{Built}
 use Rattle.tree.specs.Answer.{answerOf}
 use Rattle.tree.specs.Build.{BuildOutcome, outcomeOf, buildOf}
 use Rattle.tree.specs.Verify.{verifyOf}
-use Rattle.c_numbers.specs.Sizes.{digestSize, levelSize}
+use Rattle.c_numbers.specs.Sizes.{levelSize}
 use Rattle.c_numbers.specs.Outcome.{Outcome, done, wrongLength, refusedWith, answering}
 use Rattle.c_numbers.proofs.Outcomes.{length-wrong, length-right, number-told, answering-refused, answering-done}
 use Rattle.c_tree.specs.HashTree.{BuildCall, refusedBuild, buildCall, levelBufferOf, verifyCall}

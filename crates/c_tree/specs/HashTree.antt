@@ -18,10 +18,11 @@ use lib.ListN.{length}
 use Rattle.octets.specs.Numbers.{le, value}
 use Rattle.octets.specs.Answer.{Answer, taken, refused, numberIn}
 use Rattle.octets.specs.Choice.{pick, firstMet, differs}
+use Rattle.digest.specs.Sha256.{digestSize}
 use Rattle.tree_path.specs.Places.{lengthOf}
 use Rattle.tree.specs.Build.{BuildOutcome, buildOf}
 use Rattle.tree.specs.Verify.{verifyOf}
-use Rattle.c_numbers.specs.Sizes.{digestSize, levelSize}
+use Rattle.c_numbers.specs.Sizes.{levelSize}
 use Rattle.c_numbers.specs.Outcome.{Outcome, wrongLength, refusedWith, answering}
 
 -- ---- length

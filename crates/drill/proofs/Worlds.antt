@@ -23,20 +23,20 @@ use Rattle.on_disk.specs.declared.Layout.{Layout}
 use Rattle.drill.specs.declared.Live.the-variants.{Off}
 use Rattle.drill.specs.declared.Moment.{Moment}
 use Rattle.drill.specs.Script.{eventSize, eventOf, eventAt, eventsUpTo, eventsOf}
-use Rattle.drill.specs.Played.{setting, liveOf, worldOf, stagingNext, stagingAfter, Turn, Leaves, played, Plays}
+use Rattle.drill.specs.Played.{setting, liveOf, worldOf, stagingNext, stagingAfter, Turn, Ran, played, Plays}
 use Rattle.drill.proofs.Scripts.{world-more, loan-more}
 
 module _ (r : ℕ) (v₀ st₀ : List ℕ) where
   -- before the first event
-  pub begins : (m : Moment) → m ≡ record { live = Off; settled = false } → Leaves r v₀ st₀ [] m v₀ st₀
+  pub begins : (m : Moment) → m ≡ record { live = Off; settled = false } → Ran r v₀ st₀ [] m v₀ st₀
   unfolding after stagingAfter
   begins m q = record { world = ap (λ (y : Moment). worldOf y v₀ st₀) q; staging = refl }
 
   -- one event more
-  module _ (n i : ℕ) (script v st v′ st′ : List ℕ) (m m′ : Moment) (before : Leaves r v₀ st₀ (eventsUpTo n script i) m v st) where
+  module _ (n i : ℕ) (script v st v′ st′ : List ℕ) (m m′ : Moment) (before : Ran r v₀ st₀ (eventsUpTo n script i) m v st) where
     pub event-played : (k s b : ℕ) → Turn r v (liveOf (m .live) st) st (eventOf (length st) k s b) m′ v′ st′
         → length st ≡ n → k ≡ getD script (i * eventSize) 0 → s ≡ value (part script (i * eventSize + 1) 2) → b ≡ getD script (i * eventSize + 3) 0
-        → Leaves r v₀ st₀ (eventsUpTo n script (i + 1)) m′ v′ st′
+        → Ran r v₀ st₀ (eventsUpTo n script (i + 1)) m′ v′ st′
     event-played k s b turn en ek es eb =
         let is : eventOf (length st) k s b ≡ eventAt n script i = λ j. eventOf (en j) (ek j) (es j) (eb j) in
         record {
@@ -70,14 +70,14 @@ module _ (g : Layout) (script v st : List ℕ) where
     answered : formatAnswer a ≡ formatOf tagOf g v .answer
     answered = ap (λ (o : FormatResult). o .answer) made
 
-    plays : (m : Moment) (v′ st′ : List ℕ) → Leaves (g .reserved) v₁ st (events (formatAnswer a)) m v′ st′ → Plays g script v st (record { format = a; last = m }) v′ st′
+    plays : (m : Moment) (v′ st′ : List ℕ) → Ran (g .reserved) v₁ st (events (formatAnswer a)) m v′ st′ → Plays g script v st (record { format = a; last = m }) v′ st′
     unfolding Demand
     plays m v′ st′ l =
         let world : worldOf m v′ st′ ≡ worldAfter tagOf g v (played g script v st) =
         l .world ∙ (λ j. after (settingOf tagOf g) (begin (made j .volume)) (events (answered j))) in
         record {
           format = answered;
-          leaves = record {
+          events = record {
             world = world;
             staging = l .staging ∙ (λ j. stagingAfter (g .reserved) (begin (made j .volume)) st (events (answered j)));
           };
@@ -89,9 +89,9 @@ module _ (g : Layout) (script v st : List ℕ) where
     -- a refused format
     pub not-played : (x : Refusal) (m : Moment) → a ≡ Refused x → m ≡ record { live = Off; settled = false } → Plays g script v st (record { format = a; last = m }) v₁ st
     not-played x m e q =
-        plays m v₁ st (subst (λ (y : FormatAnswer). Leaves (g .reserved) v₁ st (events (formatAnswer y)) m v₁ st) (sym e) (begins (g .reserved) v₁ st m q))
+        plays m v₁ st (subst (λ (y : FormatAnswer). Ran (g .reserved) v₁ st (events (formatAnswer y)) m v₁ st) (sym e) (begins (g .reserved) v₁ st m q))
 
-    pub all-played : (m : Moment) (v′ st′ : List ℕ) → a ≡ Formatted → Leaves (g .reserved) v₁ st (eventsOf (length st) script) m v′ st′
+    pub all-played : (m : Moment) (v′ st′ : List ℕ) → a ≡ Formatted → Ran (g .reserved) v₁ st (eventsOf (length st) script) m v′ st′
         → Plays g script v st (record { format = a; last = m }) v′ st′
     all-played m v′ st′ e l =
-        plays m v′ st′ (subst (λ (y : FormatAnswer). Leaves (g .reserved) v₁ st (events (formatAnswer y)) m v′ st′) (sym e) l)
+        plays m v′ st′ (subst (λ (y : FormatAnswer). Ran (g .reserved) v₁ st (events (formatAnswer y)) m v′ st′) (sym e) l)

@@ -9,7 +9,7 @@
 -- stagingNext r v x st e  : the staging loan st after the event e, on the volume v with x live
 -- stagingAfter r w st es  : the same after the events es, from the world w
 -- Turn ..                 : the event e, on the volume v with x live and the staging loan st, led to m, and left v′ and st′ in the loans
--- Leaves ..               : the events es, with nothing live at first, did so
+-- Ran ..                  : the events es, with nothing live at first, did so
 -- played ..               : the events of a drill
 -- Plays ..                : the drill of a script on the volume v with the staging loan st handed back p, and left v′ and st′ in the loans
 use Prim.Native.Nat.{ℕ}
@@ -72,7 +72,7 @@ pub record Turn (r : ℕ) (v : List ℕ) (x : Live) (st : List ℕ) (e : Event) 
   pub world : worldOf m v′ st′ ≡ happens (setting r) (mediumOf v) x e .world
   pub staging : st′ ≡ stagingNext r v x st e
 
-pub record Leaves (r : ℕ) (v st : List ℕ) (es : List Event) (m : Moment) (v′ st′ : List ℕ) : Type 0 where
+pub record Ran (r : ℕ) (v st : List ℕ) (es : List Event) (m : Moment) (v′ st′ : List ℕ) : Type 0 where
   pub world : worldOf m v′ st′ ≡ after (setting r) (begin v) es
   pub staging : st′ ≡ stagingAfter r (begin v) st es
 
@@ -85,6 +85,6 @@ module _ (g : Layout) (script v st : List ℕ) where
 
   pub record Plays (p : Played) (v′ st′ : List ℕ) : Type 0 where
     pub format : formatAnswer (p .format) ≡ formatOf tagOf g v .answer
-    pub leaves : Leaves (g .reserved) (formatOf tagOf g v .volume) st played (p .last) v′ st′
+    pub events : Ran (g .reserved) (formatOf tagOf g v .volume) st played (p .last) v′ st′
     -- R5: demand 3, of what ran
     pub agrees : p .last .settled ≡ true → Agrees tagOf g (formatOf tagOf g v .volume) (worldOf (p .last) v′ st′) (ledgerAfter tagOf g v played)

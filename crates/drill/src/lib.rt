@@ -22,7 +22,7 @@ ghost use Rattle.model.specs.World.{off, on};
 ghost use Rattle.model.specs.World as lists;
 ghost use Rattle.model.specs.Write.{writeOf};
 ghost use Rattle.drill.specs.Script.{shortSize, eventOf, eventsOf};
-ghost use Rattle.drill.specs.Played.{setting, liveOf, worldOf, Turn, Leaves, Plays};
+ghost use Rattle.drill.specs.Played.{setting, liveOf, worldOf, Turn, Ran, Plays};
 
 // The kinds of event; any other is a read. A short one is made with a loan of a wrong length.
 pub const CUT: u8 = 0;
@@ -89,7 +89,7 @@ pub fn play(g: Layout, script: &[u8], v: &mut [u8], st: &mut [u8]) -> Played
 
 // Plays the script on a volume with r reserved sectors.
 fn events(r: usize, script: &[u8], v: &mut [u8], st: &mut [u8]) -> Moment
-    ensures { λ m. ⌜ Leaves r (now (v .entry)) (now (st .entry)) (eventsOf (length (now (st .entry))) (now (script .entry))) m (now (v .exit)) (now (st .exit)) ⌝ }
+    ensures { λ m. ⌜ Ran r (now (v .entry)) (now (st .entry)) (eventsOf (length (now (st .entry))) (now (script .entry))) m (now (v .exit)) (now (st .exit)) ⌝ }
 {
     let count = script.len() / EVENT_SIZE;
     let mut last = at_rest(Live::Off);

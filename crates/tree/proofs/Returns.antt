@@ -9,7 +9,7 @@ use Rattle.octets.specs.Answer.{refuse}
 use Rattle.digest.specs.Sha256.{digestSize}
 use Rattle.tree_path.specs.Places.{blockSize, mostBlocks, longestSalt, levelsOf, placesOf, treeLength}
 use Rattle.tree_path.specs.Path.{computedOf, standingOf}
-use Rattle.tree.specs.Build.{refusedWith, builtOf, buildOf}
+use Rattle.tree.specs.Build.{notBuilt, builtOf, buildOf}
 use Rattle.tree.specs.Verify.{comparedOf, verifyOf}
 
 module _ (b : List ℕ) (i : ℕ) (t : List ℕ) (n : ℕ) (s r : List ℕ) where
@@ -80,28 +80,28 @@ module _ (b : List ℕ) (i : ℕ) (t : List ℕ) (n : ℕ) (s r : List ℕ) wher
                   )
 
 module _ (n : ℕ) (s d t : List ℕ) where
-  pub build-none : n ≡ 0 → refusedWith 2 t ≡ buildOf n s d t
+  pub build-none : n ≡ 0 → notBuilt 2 t ≡ buildOf n s d t
   unfolding buildOf
   build-none a = rw (eq-eqb n 0 a)
 
   module _ (en : n ≢ 0) where
-    pub build-many : mostBlocks < n → refusedWith 2 t ≡ buildOf n s d t
+    pub build-many : mostBlocks < n → notBuilt 2 t ≡ buildOf n s d t
     unfolding buildOf
     build-many a = rw (ne-eqb n 0 en, lt-ltb mostBlocks n a)
 
     module _ (em : n ≤ mostBlocks) where
-      pub build-salt : longestSalt < length s → refusedWith 2 t ≡ buildOf n s d t
+      pub build-salt : longestSalt < length s → notBuilt 2 t ≡ buildOf n s d t
       unfolding buildOf
       build-salt a = rw (ne-eqb n 0 en, le-ltb mostBlocks n em, lt-ltb longestSalt (length s) a)
 
       module _ (es : length s ≤ longestSalt) where
-        pub build-image : length d ≢ n * blockSize → refusedWith 1 t ≡ buildOf n s d t
+        pub build-image : length d ≢ n * blockSize → notBuilt 1 t ≡ buildOf n s d t
         unfolding buildOf
         build-image a =
             rw (ne-eqb n 0 en, le-ltb mostBlocks n em, le-ltb longestSalt (length s) es, ne-eqb (length d) (n * blockSize) a)
 
         module _ (ed : length d ≡ n * blockSize) where
-          pub build-tree : length t ≢ treeLength n → refusedWith 1 t ≡ buildOf n s d t
+          pub build-tree : length t ≢ treeLength n → notBuilt 1 t ≡ buildOf n s d t
           unfolding buildOf
           build-tree a =
               rw (

@@ -42,7 +42,7 @@ use Rattle.layout.proofs.Sizes.{width-high, section-inside}
 use Rattle.stores.specs.declared.changes.Part.{Part}
 use Rattle.stores.specs.Asked.{StoreOfEntry}
 use Rattle.stores.specs.Changes.{Changes}
-use Rattle.volume_step.specs.Results.{Leaves, recovered}
+use Rattle.volume_step.specs.Results.{Leaves, storedInRecovery}
 use Rattle.volume.specs.Results.{advanced, stepAdded}
 use Rattle.model.proofs.States.{state-layout, fit-room, volume-below}
 use Rattle.volume_step.proofs.Making.{place-made}
@@ -132,10 +132,10 @@ abbrev pub resultOf : Advanced → ℕ → ℕ → ℕ → Bool → Advanced
 resultOf b k zero at more = b
 resultOf b k (suc i) at more =
     record {
-      answer = recovered (b .state) at (k + suc i) more .answer;
+      answer = storedInRecovery (b .state) at (k + suc i) more .answer;
       done = suc i;
       acknowledged = b .acknowledged;
-      state = recovered (b .state) at (k + suc i) more .state;
+      state = storedInRecovery (b .state) at (k + suc i) more .state;
     }
 
 -- What holds between two steps of a recovery that began with b on the volume v₀, at store k: i stores were made, the last to sector `at`, and left the
@@ -188,24 +188,24 @@ module _ (b : Advanced) (none : b .done ≡ 0) (k : ℕ) (phase : b .state .phas
   acknowledged-after (suc i) = refl
 
   -- one step more
-  result-next : (i at′ : ℕ) (more : Bool) → resultOf b k (suc i) at′ more ≡ stepAdded (resultOf b k i at true) (recovered (b .state) at′ (k + suc i) more)
+  result-next : (i at′ : ℕ) (more : Bool) → resultOf b k (suc i) at′ more ≡ stepAdded (resultOf b k i at true) (storedInRecovery (b .state) at′ (k + suc i) more)
   result-next i at′ more = go more
     where
       count : suc i ≡ resultOf b k i at true .done + 1
       count = omega (arith, done-after i)
 
-      go : (more : Bool) → resultOf b k (suc i) at′ more ≡ stepAdded (resultOf b k i at true) (recovered (b .state) at′ (k + suc i) more)
+      go : (more : Bool) → resultOf b k (suc i) at′ more ≡ stepAdded (resultOf b k i at true) (storedInRecovery (b .state) at′ (k + suc i) more)
       go true = λ j. record {
-        answer = recovered (b .state) at′ (k + suc i) true .answer;
+        answer = storedInRecovery (b .state) at′ (k + suc i) true .answer;
         done = count j;
         acknowledged = sym (acknowledged-after i) j;
-        state = recovered (b .state) at′ (k + suc i) true .state;
+        state = storedInRecovery (b .state) at′ (k + suc i) true .state;
       }
       go false = λ j. record {
-        answer = recovered (b .state) at′ (k + suc i) false .answer;
+        answer = storedInRecovery (b .state) at′ (k + suc i) false .answer;
         done = count j;
         acknowledged = sym (acknowledged-after i) j;
-        state = recovered (b .state) at′ (k + suc i) false .state;
+        state = storedInRecovery (b .state) at′ (k + suc i) false .state;
       }
 
 module _ {b : Advanced} {v₀ : List ℕ} {k : ℕ} {ids : List ℕ} {i at : ℕ} {x : Location} {v : List ℕ} (u : Underway b v₀ k ids i at x v) where
@@ -275,11 +275,11 @@ module _ {b : Advanced} {v₀ : List ℕ} {k : ℕ} {ids : List ℕ} {i at : ℕ
           more-is : ltb (y .section) (g .sections) ≡ ltb (k + i + 1) (stepsOf g (replay g v))
           more-is = step-there g v ok (k + i + 1) y (ey (k + i) (u .next))
 
-          makes : (st : List ℕ) → stagingOk g st ≡ true → Leaves v (stepOf here v st) (recovered (b .state) at′ (k + suc i) (ltb (y .section) (g .sections))) v′ st
+          makes : (st : List ℕ) → stagingOk g st ≡ true → Leaves v (stepOf here v st) (storedInRecovery (b .state) at′ (k + suc i) (ltb (y .section) (g .sections))) v′ st
           makes st q =
               place-made here v st sound-here fits-here q (k + i) refl x (there .1) sector es below at′ v′ home
-              (recovered (b .state) at′ (k + suc i) (ltb (y .section) (g .sections))) (ltb (y .section) (g .sections)) more-is
-              (ap (λ (n : ℕ). recovered here at′ n (ltb (y .section) (g .sections))) {x = k + suc i} {y = k + i + 1} (omega arith))
+              (storedInRecovery (b .state) at′ (k + suc i) (ltb (y .section) (g .sections))) (ltb (y .section) (g .sections)) more-is
+              (ap (λ (n : ℕ). storedInRecovery here at′ n (ltb (y .section) (g .sections))) {x = k + suc i} {y = k + i + 1} (omega arith))
 
           fit-next : volumeLoanOk v′ && leb (needed g * 512) (length v′) ≡ true
           fit-next = subst (λ (n : ℕ). (eqb (n % 512) 0 && leb n (mostSectors * 512)) && leb (needed g * 512) n ≡ true) sized-same (u .fit)
@@ -288,9 +288,9 @@ module _ {b : Advanced} {v₀ : List ℕ} {k : ℕ} {ids : List ℕ} {i at : ℕ
               → advanced (resultOf b k (suc i) at′ (ltb (y .section) (g .sections))) v′ st ≡ advanceFrom (i + 1) (advanced b v₀ st)
           reach-next st q =
               let last : Advanced = resultOf b k i at true in
-              made-more last (resultOf b k (suc i) at′ (ltb (y .section) (g .sections))) (recovered (b .state) at′ (k + suc i) (ltb (y .section) (g .sections)))
+              made-more last (resultOf b k (suc i) at′ (ltb (y .section) (g .sections))) (storedInRecovery (b .state) at′ (k + suc i) (ltb (y .section) (g .sections)))
               (result-next b (u .none) k (u .phase) at i at′ (ltb (y .section) (g .sections))) v st v′ st
-              (subst (λ (s : State). Leaves v (stepOf s v st) (recovered (b .state) at′ (k + suc i) (ltb (y .section) (g .sections))) v′ st) (sym (state-after b (u .none) k (u .phase) at i)) (makes st q))
+              (subst (λ (s : State). Leaves v (stepOf s v st) (storedInRecovery (b .state) at′ (k + suc i) (ltb (y .section) (g .sections))) v′ st) (sym (state-after b (u .none) k (u .phase) at i)) (makes st q))
               (advanced b v₀ st) i
               (ap (λ (m : Bool). advanced (resultOf b k i at m) v st) (sym (lt-ltb (x .section) (g .sections) l)) ∙ u .reach st q)
 
@@ -315,7 +315,7 @@ module _ {b : Advanced} {v₀ : List ℕ} {k : ℕ} {ids : List ℕ} {i at : ℕ
       ∙ ap (λ (n : ℕ). advanceFrom n (advanced b v₀ st)) (z ∙ sym (u .none))
 
   pub steps-made : (r : Advanced) (o : Stepped) → r ≡ record { answer = o .answer; done = i; acknowledged = b .acknowledged; state = o .state }
-      → o ≡ recovered (b .state) at (k + i) (ltb (x .section) (g .sections)) → i ≢ 0 → (st : List ℕ) → stagingOk g st ≡ true
+      → o ≡ storedInRecovery (b .state) at (k + i) (ltb (x .section) (g .sections)) → i ≢ 0 → (st : List ℕ) → stagingOk g st ≡ true
       → advanced r v st ≡ advanceFrom (r .done) (advanced b v₀ st)
   steps-made r o er eo nz st q =
       ap (λ (a : Advanced). advanced a v st) er
@@ -323,7 +323,7 @@ module _ {b : Advanced} {v₀ : List ℕ} {k : ℕ} {ids : List ℕ} {i at : ℕ
       ∙ go i nz ∙ u .reach st q ∙ ap (λ (a : Advanced). advanceFrom (a .done) (advanced b v₀ st)) (sym er)
     where
       go : (i : ℕ) → i ≢ 0
-          → advanced (record { answer = recovered (b .state) at (k + i) (ltb (x .section) (g .sections)) .answer; done = i; acknowledged = b .acknowledged; state = recovered (b .state) at (k + i) (ltb (x .section) (g .sections)) .state }) v st
+          → advanced (record { answer = storedInRecovery (b .state) at (k + i) (ltb (x .section) (g .sections)) .answer; done = i; acknowledged = b .acknowledged; state = storedInRecovery (b .state) at (k + i) (ltb (x .section) (g .sections)) .state }) v st
           ≡ advanced (resultOf b k i at (ltb (x .section) (g .sections))) v st
       go zero nz = absurd (nz refl)
       go (suc i) nz = refl

@@ -30,7 +30,7 @@ use Rattle.model.proofs.NextStore.{step-stores}
 use Rattle.section.specs.declared.Location.{Location}
 use Rattle.section.specs.Locations.{Locates}
 use Rattle.journal.specs.Replay.{entryStoreAt}
-use Rattle.volume_step.specs.Results.{recovered, Leaves, Fills, Inside}
+use Rattle.volume_step.specs.Results.{storedInRecovery, Leaves, Fills, Inside}
 use Rattle.volume_step.proofs.Steps.{place-told}
 
 -- ---- the store that an answer names
@@ -72,8 +72,8 @@ module _ (s : State) (v st out : List ℕ) (size : length out ≡ 512) (o : Step
   pub content-is : out′ ≡ contentOf out (stepOf s v st .effect)
   content-is = filled .content ∙ ap (λ (x : StepResult). contentOf out (x .effect)) told
 
-  pub leaves : (v′ : List ℕ) → v′ ≡ storeNamed v (stepAnswer (o .answer)) out′ → Leaves v (stepOf s v st) o v′ st′
-  leaves v′ e =
+  pub step-made : (v′ : List ℕ) → v′ ≡ storeNamed v (stepAnswer (o .answer)) out′ → Leaves v (stepOf s v st) o v′ st′
+  step-made v′ e =
       record {
         answer = answered;
         state = filled .state ∙ ap (λ (x : StepResult). x .state) told;
@@ -90,13 +90,13 @@ module _ (s : State) (v st : List ℕ) (sound : stateOk s ≡ true) (fits : volu
   home = homeStore (s .layout) v (entryOf (s .layout .width) (sectionOf (s .layout) v (x .section)) (x .entry)) (x .store)
 
   module _ (at : ℕ) (v′ : List ℕ) (made-home : (at ≡ home .at) × (v′ ≡ made v home)) (o : Stepped) where
-    stored-there : (more : Bool) → o ≡ recovered s at (k + 1) more → v′ ≡ storeNamed v (stepAnswer (o .answer)) (home .content)
+    stored-there : (more : Bool) → o ≡ storedInRecovery s at (k + 1) more → v′ ≡ storeNamed v (stepAnswer (o .answer)) (home .content)
     stored-there true e =
         made-home .1 ∙ ap (λ (a : ℕ). putSector v a (home .content)) (sym (made-home .0)) ∙ ap (λ (y : Stepped). storeNamed v (stepAnswer (y .answer)) (home .content)) (sym e)
     stored-there false e =
         made-home .1 ∙ ap (λ (a : ℕ). putSector v a (home .content)) (sym (made-home .0)) ∙ ap (λ (y : Stepped). storeNamed v (stepAnswer (y .answer)) (home .content)) (sym e)
 
-    pub place-made : (more : Bool) → more ≡ ltb (k + 1) (stepsOf (s .layout) (replay (s .layout) v)) → o ≡ recovered s at (k + 1) more → Leaves v (stepOf s v st) o v′ st
+    pub place-made : (more : Bool) → more ≡ ltb (k + 1) (stepsOf (s .layout) (replay (s .layout) v)) → o ≡ storedInRecovery s at (k + 1) more → Leaves v (stepOf s v st) o v′ st
     place-made more q e =
         let filled = place-told s v st [] sound fits staging k phase x found n en low at (home .content) (λ i. record { at = made-home .0 i; content = home .content }) o more q e in
         record {

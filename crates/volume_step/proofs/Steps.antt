@@ -34,7 +34,7 @@ use Rattle.section.specs.declared.Location.{Location}
 use Rattle.section.specs.Locations.{entryStoreOf, Locates}
 use Rattle.journal.specs.Replay.{entryStoreAt}
 use Rattle.journal.proofs.Recovery.{step-store}
-use Rattle.volume_step.specs.Results.{recovered, Fills}
+use Rattle.volume_step.specs.Results.{storedInRecovery, Fills}
 use Rattle.model.proofs.States.{volume-replay}
 
 -- ---- a step that makes a store
@@ -201,7 +201,7 @@ module _ (s : State) (v st out : List ℕ) where
             runs (phases.Recovering k) phase (rw (step-found, lt-leb (s .layout .provided) (entry .sector) (omega (arith, en)))) o out′ st
             (subst (λ (p : RecoveryStep). Fills out (recoverAt s v st k p) o out′ st) (sym step-found) e)
 
-        pub place-told : (more : Bool) → more ≡ ltb (k + 1) (stepsOf (s .layout) (replay (s .layout) v)) → o ≡ recovered s at (k + 1) more → Fills out (stepOf s v st) o out′ st
+        pub place-told : (more : Bool) → more ≡ ltb (k + 1) (stepsOf (s .layout) (replay (s .layout) v)) → o ≡ storedInRecovery s at (k + 1) more → Fills out (stepOf s v st) o out′ st
         place-told true q e =
             recovers
             (home-next entry (x .store) at out′ is (eqb (k + 1) (stepsOf (s .layout) (replay (s .layout) v))) (phases.Recovering (k + 1)) st o

@@ -26,7 +26,7 @@ ghost use Rattle.model.specs.Step.{stepOf};
 ghost use Rattle.stores.specs.Asked.{StoreOfEntry};
 ghost use Rattle.stores.specs.Changes.{Changes};
 ghost use Rattle.volume_step.specs.Recovery.{StepOfRecovery};
-ghost use Rattle.volume_step.specs.Results.{recovered, Fills};
+ghost use Rattle.volume_step.specs.Results.{storedInRecovery, Fills};
 
 // The logical sector of the entry that x names.
 pub fn sector_of(v: &[u8], g: Layout, x: Location) -> u64
@@ -38,7 +38,7 @@ pub fn sector_of(v: &[u8], g: Layout, x: Location) -> u64
 
 // A store of the replay goes to sector `at`. Store k is next, if there are more; else the volume is filling.
 pub fn replayed(s: State, at: usize, k: usize, more: bool) -> Stepped
-    ensures { λ r. ⌜ r ≡ recovered s at k more ⌝ }
+    ensures { λ r. ⌜ r ≡ storedInRecovery s at k more ⌝ }
 {
     if more {
         return answers::stored(s, at, Phase::Recovering(k));

@@ -1,6 +1,6 @@
 use borrow.Author.Needs.{needs}
 use Rattle.drill.specs.Script.{eventsUpTo}
-use Rattle.drill.specs.Played.{Leaves}
+use Rattle.drill.specs.Played.{Ran}
 use Rattle.drill.proofs.Worlds.{begins, event-played}
 use Prim.Native.Nat.{ℕ, _-_, _/_, _≤_}
 use native.Mathlib.Omega.{arith}
@@ -11,7 +11,7 @@ use Rattle.drill.proofs.events.Tie as tie
 
 abbrev Inv-loop : tie.InvT-loop
 Inv-loop r script v₀ st₀ count last₀ i₀ v st last i = (i ≤ count) × (count ≡ length script / 4) × (length v ≡ length v₀) × (length st ≡ length st₀)
-    × Leaves r v₀ st₀ (eventsUpTo (length st₀) script i) last v st
+    × Ran r v₀ st₀ (eventsUpTo (length st₀) script i) last v st
 
 abbrev μ-loop : tie.MeasureT-loop
 μ-loop r script v₀ st₀ count last₀ i₀ v st last i = count - i
@@ -41,7 +41,7 @@ returns c =
     let a = c .before .before .before .before .before .before .args in
     let turn = c .before .loop in
     let all : turn .i ≡ length (a .script .now) / 4 = omega (arith, c .loop-test .left, turn .inv .0, turn .inv .1) in
-    subst (λ (m : ℕ). Leaves (a .r) (a .v .now) (a .st .now) (eventsUpTo (length (a .st .now)) (a .script .now) m) (turn .last) (turn .v) (turn .st)) all (turn .inv .4)
+    subst (λ (m : ℕ). Ran (a .r) (a .v .now) (a .st .now) (eventsUpTo (length (a .st .now)) (a .script .now) m) (turn .last) (turn .v) (turn .st)) all (turn .inv .4)
 
 pub events-spec : {M : Type 1} → statement M
 events-spec =

@@ -1,4 +1,4 @@
-use Rattle.volume_step.proofs.Making.{inside-volume, content-is, leaves}
+use Rattle.volume_step.proofs.Making.{inside-volume, content-is, step-made}
 use borrow.Author.Needs.{needs}
 use Rattle.volume_step.proofs.step.step_through.Statement.{statement}
 use Rattle.volume_step.proofs.step.step_through.Tie as tie
@@ -13,7 +13,7 @@ returns : tie.Need-returns
 returns c =
     let args = c .before .before .before .before .before .before .before .before .before .before .before .before .before .args in
     let next-store = c .before .before .before .before .before .before .before .next-store in (
-      leaves (args .s) (args .v .now) (args .st .now) _ (search needs) (next-store .result) _ _ (next-store .ensures) _ (c .before .before .make .ensures),
+      step-made (args .s) (args .v .now) (args .st .now) _ (search needs) (next-store .result) _ _ (next-store .ensures) _ (c .before .before .make .ensures),
       content-is (args .s) (args .v .now) (args .st .now) _ (search needs) (next-store .result) _ _ (next-store .ensures),
     )
 
