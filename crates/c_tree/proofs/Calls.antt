@@ -23,7 +23,7 @@ use Rattle.tree.specs.Verify.{verifyOf}
 use Rattle.c_numbers.specs.Sizes.{levelSize}
 use Rattle.c_numbers.specs.Outcome.{Outcome, done, wrongLength, refusedWith, answering}
 use Rattle.c_numbers.proofs.Outcomes.{length-wrong, length-right, number-told, answering-refused, answering-done}
-use Rattle.c_tree.specs.HashTree.{BuildCall, refusedBuild, buildCall, levelBufferOf, verifyCall}
+use Rattle.c_tree.specs.HashTree.{refusedBuild, buildCall, levelBufferOf, verifyCall}
 
 -- refusals have another number than `done`
 only-taken : (a : Answer) → numberIn (answerOf a) ≡ done → isTaken (answerOf a) ≡ true

@@ -10,7 +10,7 @@ use native.Mathlib.Decide.{ℕ-discrete}
 use lib.ListN.{length}
 use lib.Dec.{eqb}
 use borrow.Author.Tests.{eqb-true, eq-eqb, ne-eqb, lt-ltb, leb-false}
-use Rattle.octets.specs.Answer.{Refusal, taken, refused, isTaken}
+use Rattle.octets.specs.Answer.{Refusal, taken, refused}
 use Rattle.octets.specs.Choice.{pick, firstMet}
 use Rattle.octets.proofs.Answers.{refused-not-taken}
 use Rattle.octets.proofs.Choice.{Unmet, unmet}

@@ -1,6 +1,6 @@
 -- Uses of the top statements, each at an instance that only the whole statement gives: so that a statement which is made weaker, and is then still
 -- proved, is refused here.
-use Prim.Native.Nat.{ℕ, _+_, _-_, _*_, _^_, _≤_, _<_}
+use Prim.Native.Nat.{ℕ, _+_, _-_, _*_, _^_, _<_}
 use mathlib.Core.Bool.{true}
 use mathlib.Core.Logic.{_≢_}
 use mathlib.Core.List.{List, [], _∷_, _++_}
@@ -12,7 +12,7 @@ use Rattle.octets.specs.Answer.{taken, isTaken}
 use Rattle.octets.specs.Sectors.{sectorAt}
 use Rattle.on_disk.specs.declared.Layout.{Layout}
 use Rattle.model.specs.declared.State.{State}
-use Rattle.on_disk.specs.Layout.{sectionSize, sectionAt, base, dataAt, tagByte, needed, layoutOk}
+use Rattle.on_disk.specs.Layout.{sectionSize, dataAt, needed, layoutOk}
 use Rattle.on_disk.specs.Section.{Entry, wholeId, emptySection}
 use Rattle.model.specs.Journal.{usedOf}
 use Rattle.model.specs.Tag.{Tags, TagsOf, tagAt}

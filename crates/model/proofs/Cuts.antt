@@ -18,7 +18,7 @@ use Rattle.on_disk.specs.Layout.{sectionSize, sectionAt, base, dataAt, tagByte}
 use Rattle.on_disk.specs.Section.{idOf}
 use Rattle.octets.specs.Lists.{allBelow}
 use Rattle.model.specs.Journal.{sealed, sectionOf, greatestId, replay}
-use Rattle.model.specs.Tag.{Tag, tagAt}
+use Rattle.model.specs.Tag.{Tag}
 use Rattle.model.specs.Ledger.{Contents, Ledger, entered}
 use Rattle.model.specs.Medium.{Medium, volumeIn}
 use Rattle.model.specs.World.{Live}

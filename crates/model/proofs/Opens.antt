@@ -9,7 +9,7 @@ use native.Mathlib.Decide.{ℕ-discrete}
 use lib.ListN.{length}
 use lib.Dec.{ltb, eqb}
 use borrow.Author.Tests.{eq-eqb, ne-eqb, le-ltb, lt-leb}
-use Rattle.octets.specs.Answer.{taken, refuse, isTaken}
+use Rattle.octets.specs.Answer.{taken, refuse}
 use Rattle.octets.proofs.Choice.{passes}
 use Rattle.octets.specs.Parts.{same}
 use Rattle.octets.proofs.Numbers.{value-le}

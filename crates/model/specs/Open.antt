@@ -8,7 +8,7 @@
 -- entryRows tag g x      : the rules on the entry x that is to be replayed; entriesVerdict: on all of them, in replay order
 -- replayVerdict tag g v  : what the rules say of the sections to be replayed
 -- openOf tags r v st     : the call: its answer and the staging loan afterwards
-use Prim.Native.Nat.{ℕ, zero, suc, _+_, _*_}
+use Prim.Native.Nat.{ℕ, suc, _+_, _*_}
 use mathlib.Core.Bool.{Bool, not, _&&_}
 use mathlib.Core.List.{List, [], _∷_, _++_}
 use lib.ListN.{length}

@@ -25,7 +25,7 @@ use Rattle.model.specs.Flush.{FlushResult, flushOf}
 use Rattle.model.specs.StepResult.{StepResult, stepSettles}
 use Rattle.model.specs.Step.{stepOf}
 use Rattle.model.specs.NextStore.{nextStoreOf, storeNamed}
-use Rattle.model.specs.Read.{ReadResult, readOf}
+use Rattle.model.specs.Read.{readOf}
 use Rattle.model.specs.Ledger.{Noted, cut, opened, wrote, flushed, stepped, read}
 use Rattle.model.specs.Medium.{Medium, mediumOf, volumeIn, mediumAfter, mediumCut}
 

@@ -22,7 +22,7 @@ use Rattle.model.specs.declared.Phase.the-variants.{Filling, Recovering}
 use Rattle.model.specs.declared.State.{State}
 use Rattle.on_disk.specs.Layout.{entryCount, sectionSize, dataAt, needed, layoutOk}
 use Rattle.on_disk.specs.Section.{emptySection}
-use Rattle.model.specs.Journal.{greatestId, sectionOf, Replayed, replay}
+use Rattle.model.specs.Journal.{greatestId, Replayed, replay}
 use Rattle.on_disk.specs.Superblock.{superblockAt, layoutIn}
 use Rattle.model.specs.Store.{made, homeCount, homeStore, storeOf, storesOfEntry, entryStores, storesOf, RecoveryStep, storing, recoverySteps, stepsOf, noStore, recoveryStepAt}
 use Rattle.model.specs.Tag.{Tag, Tags, tagOf, tagAt}

@@ -1,6 +1,4 @@
-use Prim.Native.Nat.{ℕ}
 use borrow.Author.Needs.{needs}
-use mathlib.Core.List.{List}
 use mathlib.Core.Path.{sym, ap, _∙_}
 use Rattle.model.specs.Medium.{mediumOf}
 use Rattle.model.specs.Refusal.{openAnswer}

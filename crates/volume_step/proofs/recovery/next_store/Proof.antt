@@ -3,7 +3,6 @@ use mathlib.Core.List.{List}
 use mathlib.Core.Path.{ap, _∙_}
 use native.Mathlib.Omega.{arith}
 use Rattle.on_disk.specs.Section.{entryOf}
-use Rattle.model.specs.Journal.{sectionOf}
 use Rattle.model.specs.Store.{homeCount, homeStore}
 use Rattle.layout.proofs.Sizes.{width-high}
 use Rattle.journal.proofs.Recovery.{steps-high}
