@@ -11,9 +11,9 @@ use borrow.Author.Tests.{eq-eqb, ne-eqb}
 use Rattle.octets.specs.Choice.{pick}
 use Rattle.octets.specs.Sectors.{sectorAt}
 use Rattle.on_disk.specs.Layout.{sectionSize, layoutOk}
-use Rattle.on_disk.specs.Section.{idOf, wholeId}
+use Rattle.on_disk.specs.Section.{idOf}
 use Rattle.octets.specs.Lists.{allBelow, firstBelow}
-use Rattle.model.specs.Journal.{sectionOf, sectionFor, wholeIds}
+use Rattle.model.specs.Journal.{wholeId, sectionOf, sectionFor, wholeIds}
 use Rattle.model.specs.Open.{misplacedId, misplaced}
 use Rattle.on_disk.specs.declared.Layout.{Layout}
 use Rattle.journal.specs.Replay.{idsOf}

@@ -13,8 +13,8 @@ use Rattle.octets.specs.Sectors.{sectorAt}
 use Rattle.on_disk.specs.declared.Layout.{Layout}
 use Rattle.model.specs.declared.State.{State}
 use Rattle.on_disk.specs.Layout.{sectionSize, dataAt, needed, layoutOk}
-use Rattle.on_disk.specs.Section.{Entry, wholeId, emptySection}
-use Rattle.model.specs.Journal.{usedOf}
+use Rattle.on_disk.specs.Section.{Entry, emptySection}
+use Rattle.model.specs.Journal.{wholeId, usedOf}
 use Rattle.model.specs.Tag.{Tags, TagsOf, tagAt}
 use Rattle.model.specs.State.{passed}
 use Rattle.model.specs.Format.{formatOf}

@@ -13,9 +13,9 @@ use Rattle.octets.specs.Choice.{pick}
 use Rattle.model.specs.Guarantees.{Outside}
 use Rattle.octets.specs.Sectors.{sectorAt}
 use Rattle.on_disk.specs.Layout.{entryCount, sectionSize}
-use Rattle.on_disk.specs.Section.{unused, idOf, entryOf, wholeId, greatestIn}
+use Rattle.on_disk.specs.Section.{unused, idOf, entryOf}
 use Rattle.octets.specs.Lists.{allBelow}
-use Rattle.model.specs.Journal.{sealed, dueIds, sectionOf, greatestId, wholeIds, Replayed, usedOf, replay}
+use Rattle.model.specs.Journal.{wholeId, greatestIn, sealed, dueIds, sectionOf, greatestId, wholeIds, Replayed, usedOf, replay}
 use Rattle.model.specs.Tag.{Tag}
 use Rattle.model.specs.Ledger.{Write, Contents, entered}
 use Rattle.model.proofs.Replays.{mentions, mentions-append, or-right, Clean, Durable, Pass, tear, commit, pass-starts, durable-map, Which, isTrue, isFalse, which}

@@ -24,7 +24,8 @@ use Rattle.model.specs.Medium.{Medium, volumeIn}
 use Rattle.model.specs.World.{Live}
 use Rattle.model.specs.declared.Phase.the-variants.{Committing}
 use Rattle.model.proofs.Replays.{mentions, Clean, Pass, Which, isTrue, isFalse, which}
-use Rattle.model.proofs.Journals.{top-section, id-sealed, top-ge, writes, batchOf, below-all}
+use Rattle.octets.proofs.Lists.{below-all}
+use Rattle.model.proofs.Journals.{top-section, id-sealed, top-ge, writes, batchOf}
 use Rattle.on_disk.proofs.Addresses.{tag-sector, data-high, tag-high, section-apart, section-low}
 use Rattle.model.proofs.Volumes.{part-bytes, sectors-ext, volume-ext, getD-sector}
 use Rattle.model.specs.Guarantees.{Outside}

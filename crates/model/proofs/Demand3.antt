@@ -19,8 +19,8 @@ use Rattle.octets.specs.Sectors.{sectorAt}
 use Rattle.octets.proofs.Parts.{eq-same}
 use Rattle.octets.proofs.Sectors.{sector-part}
 use Rattle.on_disk.specs.Layout.{mostSectors, sectionSize, sectionAt, dataAt}
-use Rattle.on_disk.specs.Section.{idOf, entryOf, emptySection, greatestIn}
-use Rattle.model.specs.Journal.{greatestId, dueIds, sectionOf, wholeIds, replayIn, replay}
+use Rattle.on_disk.specs.Section.{idOf, entryOf, emptySection}
+use Rattle.model.specs.Journal.{greatestIn, greatestId, dueIds, sectionOf, wholeIds, replayIn, replay}
 use Rattle.model.specs.State.{sectorOk, passed}
 use Rattle.model.specs.Tag.{Tag, Tags, tagOf, tagAt}
 use Rattle.model.specs.Read.{newestFor, readRows, readOf}

@@ -14,10 +14,10 @@ use Rattle.octets.specs.Parts.{part}
 use Rattle.octets.proofs.Parts.{length-part, part-part}
 use Rattle.octets.specs.Sectors.{sectorAt}
 use Rattle.on_disk.specs.Layout.{perSector, entryCount, sectionSize, sectionAt, base}
-use Rattle.on_disk.specs.Section.{Entry, unused, idOf, entryOf, wholeId, greatestIn}
+use Rattle.on_disk.specs.Section.{Entry, unused, idOf, entryOf}
 use Rattle.octets.specs.Lists.{allBelow, greatest, collect}
-pub use Rattle.octets.proofs.Lists.{all-below, below-all}
-use Rattle.model.specs.Journal.{sealed, sectionOf, greatestId, dueIds, Found, insert, ordered, wholeIds, Replayed, usedEntry, usedOf, replayIn, replay}
+use Rattle.octets.proofs.Lists.{all-below, below-all}
+use Rattle.model.specs.Journal.{wholeId, greatestIn, sealed, sectionOf, greatestId, dueIds, Found, insert, ordered, wholeIds, Replayed, usedEntry, usedOf, replayIn, replay}
 use Rattle.model.specs.Ledger.{Write}
 use Rattle.on_disk.proofs.Sections.{length-withId, id-withId, entry-stamped}
 use Rattle.on_disk.proofs.Addresses.{section-order}

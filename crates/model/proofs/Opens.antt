@@ -28,7 +28,8 @@ use Rattle.model.specs.Ledger.{Ledger}
 use Rattle.model.specs.Medium.{Medium, volumeIn}
 use Rattle.model.specs.World.{byOpen}
 use Rattle.model.proofs.Replays.{Which, isTrue, isFalse, which, pass-replays}
-use Rattle.model.proofs.Journals.{Every, writes, all-below}
+use Rattle.octets.proofs.Lists.{all-below}
+use Rattle.model.proofs.Journals.{Every, writes}
 use Rattle.on_disk.proofs.Addresses.{Ranged, base-room}
 use Rattle.model.proofs.Plans.{At, here, at-in, home-some}
 use Rattle.model.proofs.Invariant.{Premises, low-kept, replay-goods, Good, Disk, stopped, working, inFilling, inRecovering}

@@ -12,9 +12,9 @@ use borrow.Author.Tests.{eq-eqb, ne-eqb}
 use Rattle.octets.specs.Sectors.{sectorAt}
 use Rattle.on_disk.specs.declared.Layout.{Layout}
 use Rattle.on_disk.specs.Layout.{perSector, entryCount, sectionSize}
-use Rattle.on_disk.specs.Section.{Entry, unused, idOf, entryOf, putEntry, wholeId, emptySection}
+use Rattle.on_disk.specs.Section.{Entry, unused, idOf, entryOf, putEntry, emptySection}
 use Rattle.octets.specs.Lists.{collect}
-use Rattle.model.specs.Journal.{sealed, usedEntry, usedOf}
+use Rattle.model.specs.Journal.{wholeId, sealed, usedEntry, usedOf}
 use Rattle.model.specs.ReadBack.{Sized, AllSized, putBatch, sealedSection, numbered, ReadBack}
 use Rattle.on_disk.proofs.Addresses.{ranged}
 use Rattle.on_disk.proofs.Sections.{per-pos, length-putEntry, entryOf-put-same, entryOf-put-other, part-collect, length-empty, empty-unused}

@@ -17,9 +17,9 @@ use Rattle.model.specs.declared.Phase.the-variants.{Filling, Committing,
 use Rattle.model.specs.declared.State.{State}
 use Rattle.on_disk.specs.Layout.{mostSectors, sectionSize, sectionAt, base, dataAt, tagByte, tagSector, tagOffset}
 use Rattle.on_disk.specs.Superblock.{superblockAt, layoutIn}
-use Rattle.on_disk.specs.Section.{Entry, wholeId}
+use Rattle.on_disk.specs.Section.{Entry}
 use Rattle.octets.specs.Lists.{allBelow, firstBelow}
-use Rattle.model.specs.Journal.{sectionOf, greatestId, sectionFor, wholeIds, replay}
+use Rattle.model.specs.Journal.{wholeId, sectionOf, greatestId, sectionFor, wholeIds, replay}
 use Rattle.model.specs.Tag.{Tags, tagAt}
 use Rattle.model.specs.Store.{homeStore, storeOf, RecoveryStep, storing, recoveryStepAt}
 use Rattle.model.specs.State.{Verdict, passed, volumeLoanOk, replayOk, volumeOk, stagingOk, sectorOk, lastId}

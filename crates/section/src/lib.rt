@@ -9,8 +9,8 @@ ghost use Prim.Native.Nat.{ℕ, _+_, _*_, _≤_, _<_};
 ghost use lib.ListN.{length, take};
 ghost use Rattle.octets.specs.Sectors.{sectorSize, sectorAt};
 ghost use Rattle.on_disk.specs.Layout.{mostWidth, entrySize, entryCount, sectionSize, layoutOk};
-ghost use Rattle.on_disk.specs.Section.{idOf, metadataOf, entryOffset, entryOf, putEntry, greatestIn, emptySector, emptySection};
-ghost use Rattle.model.specs.Journal.{usedOf};
+ghost use Rattle.on_disk.specs.Section.{idOf, metadataOf, entryOffset, entryOf, putEntry, emptySector, emptySection};
+ghost use Rattle.model.specs.Journal.{greatestIn, usedOf};
 ghost use Rattle.model.specs.Store.{storesOf};
 ghost use Rattle.section.specs.Locations.{FoundFrom};
 

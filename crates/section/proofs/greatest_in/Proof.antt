@@ -5,7 +5,8 @@ use native.Mathlib.Omega.{arith}
 use lib.ListN.{length}
 use borrow.Author.Needs.{needs}
 use Rattle.octets.specs.Sectors.{sectorAt}
-use Rattle.on_disk.specs.Section.{idOf, greatestIn}
+use Rattle.on_disk.specs.Section.{idOf}
+use Rattle.model.specs.Journal.{greatestIn}
 use Rattle.octets.specs.Lists.{greatest}
 use Rattle.on_disk.specs.Layout.{sectionSize}
 use Rattle.section.proofs.Ids.{greatest-more}
