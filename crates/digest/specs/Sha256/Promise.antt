@@ -1,5 +1,5 @@
 -- The digest's promise, R8: all that crates above may use of `sha256`. It has `digestSize` bytes; two pieces are as the one that they make; closing after any pieces
--- gives the digest of their concatenation.
+-- gives the digest of their concatenation, from a state that was kept behind some of them too.
 use Prim.Native.Nat.{ℕ, _+_, _/_, _≤_, _<_}
 use native.Mathlib.Nat.{zero-add}
 use native.Mathlib.Omega.{arith}
@@ -72,12 +72,23 @@ add-all (p ∷ ps) m fits =
     rw (update-taken (absorbOf freshOf m) p count, absorb-append freshOf m p refl) (rw append-assoc at next)
 
 -- closing a state that holds the message m
-close-whole : (m : List ℕ) → closeOf (absorbOf freshOf m) ≡ sha256 m
+pub close-whole : (m : List ℕ) → closeOf (absorbOf freshOf m) ≡ sha256 m
 unfolding closeOf sha256
 close-whole m =
     ap bytesOf
     (ap (λ (c : ℕ). absorbOf (absorbOf freshOf m) (paddingOf c) .words) (count-absorb freshOf m ∙ zero-add (length m))
     ∙ ap (λ (s : State). s .words) (absorb-append freshOf m (paddingOf (length m)) refl) ∙ words-absorb (m ++ paddingOf (length m)))
+
+-- and one that holds the message p, with m added: a state may be kept, and each of several messages that begin with p closed behind it
+pub close-behind : (p m : List ℕ) → closeOf (absorbOf (absorbOf freshOf p) m) ≡ sha256 (p ++ m)
+close-behind p m = ap closeOf (absorb-append freshOf p m refl) ∙ close-whole (p ++ m)
+
+-- closing any state gives a digest's length
+pub length-close : (s : State) → length (s .words) ≡ 8 → length (closeOf s) ≡ digestSize
+unfolding closeOf absorbOf
+length-close s words =
+    let whole : length (absorbOf s (paddingOf (s .count)) .words) ≡ 8 = length-hash _ (s .words) _ words in
+    rw (length-bytesOf, whole)
 
 -- whatever pieces a message comes in, closing gives its digest
 pub closing : (ps : List (List ℕ)) → length (flatten ps) ≤ limit → finishOf (addAll freshOf ps) ≡ record { answer = taken tt; digest = sha256 (flatten ps) }
