@@ -10,8 +10,9 @@ use lib.Dec.{leb, ltb, eqb}
 use borrow.Author.Tests.{eqb-true, eq-eqb, lt-ltb, le-ltb, lt-leb}
 use Rattle.octets.specs.Answer.{Answer, taken}
 use Rattle.octets.specs.Numbers.{le}
-use Rattle.digest.specs.Sha256.{sha256}
+use Rattle.digest.specs.Sha256.{digestSize, sha256}
 use Rattle.digest.specs.Sha256.Promise.{length-sha256}
+use Rattle.hmac.specs.Hmac.{keyOk, hmac}
 use Rattle.octets.specs.Choice.{pick, firstMet}
 use Rattle.octets.proofs.Choice.{passes}
 use Rattle.octets.specs.Parts.{same}
@@ -21,21 +22,23 @@ use Rattle.octets.proofs.Sectors.{sector-part}
 use Rattle.on_disk.specs.Layout.{mostSectors, sectionSize, sectionAt, dataAt}
 use Rattle.on_disk.specs.Section.{idOf, entryOf, emptySection}
 use Rattle.model.specs.Journal.{greatestIn, greatestId, dueIds, sectionOf, wholeIds, replayIn, replay}
-use Rattle.model.specs.State.{sectorOk, passed}
-use Rattle.model.specs.Tag.{Tag, Tags, tagOf, tagAt}
+use Rattle.model.specs.State.{volumeLoanOk, stateOk, stagingOk, sectorOk, passed}
+use Rattle.model.specs.Tag.{Tag, Tags, TagsOf, tagsBy, tagOf, hmacTagOf, tagAt}
 use Rattle.model.specs.Read.{newestFor, readRows, readOf}
 use Rattle.model.specs.Ledger.{start, lastFor, Ledger, note, noteAll}
 use Rattle.model.specs.Medium.{Medium, mediumOf, volumeIn}
-use Rattle.model.specs.World.{Event, Setting, settingOf, Live, off, on, World, aCut, anOpen, aWrite, aFlush, aStep, aNextStore, aRead, resting, begin, Happened, byStep, happens, next, noted, after, transcript}
+use Rattle.model.specs.World.{Event, Setting, settingOf, Live, off, on, World, aCut, anOpen, aWrite, aFlush, aStep, aNextStore, aRead, aKeyedOpen, aKeyedWrite, aKeyedRead, resting, begin, Happened, byOpen, byWrite, byStep, happens, next, noted, after, transcript}
 use Rattle.model.specs.Store.{contentOf}
 use Rattle.model.specs.StepResult.{StepResult}
 use Rattle.model.specs.JournalStep.{commitSteps}
 use Rattle.model.specs.Step.{stepOf}
 use Rattle.model.specs.NextStore.{storeNamed}
 use Rattle.model.specs.Format.{formatOf}
-use Rattle.model.specs.Open.{openBy}
+use Rattle.model.specs.Open.{OpenResult, openBy}
+use Rattle.model.specs.Write.{WriteResult}
+use Rattle.model.specs.Keyed.{keyRefusal}
 use Rattle.model.specs.Guarantees.{OpensFresh, FreshOpens}
-use Rattle.model.specs.Demand3.{Agrees, Demand3, Demand3Sha256}
+use Rattle.model.specs.Demand3.{Agrees, Demand3, Demand3Sha256, Demand3Hmac}
 use Rattle.model.proofs.Formats.{Fresh, format-layout, format-fresh}
 use Rattle.model.proofs.Replays.{lastFor-append, Which, which, isTrue, isFalse}
 use Rattle.on_disk.proofs.Sections.{per-pos}
@@ -48,6 +51,7 @@ use Rattle.model.proofs.Cuts.{and-false, cuts}
 use Rattle.model.proofs.Steps.{Inv, Leads, never, fillingIn, sound, sound-volume, sound-staging, step-keeps}
 use Rattle.model.proofs.Batches.{Filled, it, filled, write-keeps, flush-keeps}
 use Rattle.model.proofs.NextStore.{next-told, next-refused, step-stores}
+use Rattle.model.proofs.Keyed.{keyed-calls}
 use Rattle.model.proofs.Opens.{open-runs, query-holds, open-keeps}
 use Rattle.on_disk.specs.declared.Layout.{Layout}
 use Rattle.model.specs.declared.Phase.the-variants.{Filling}
@@ -190,6 +194,26 @@ module _ (tags : Tags) (g : Layout) (v₀ : List ℕ) (X : Premises (tags (g .wi
           (subst (λ (w : List ℕ). Leads tag g v₀ X l (byStep (mediumOf w) (stepOf s v st))) (sym (step-stores s v st .made b)) (step-keeps tag g v₀ X d l s st A))
       go (isFalse f) = subst (λ (o : StepResult). Leads tag g v₀ X l (told o)) (sym (next-refused s v st b f)) (kept-as d l (on s st) A)
 
+  -- with a key out of range a call is refused, and nothing is changed
+  keyed-open : (d : Medium) (l : Ledger) (key st : List ℕ) (z : keyOk key ≡ false) → Lives tag g v₀ d l off → EventLeads d l off (aKeyedOpen key st z)
+  keyed-open d l key st z A =
+      subst (λ (o : OpenResult). Leads tag g v₀ X l (byOpen d (o .staging) (o .answer)))
+      (sym (keyed-calls .refused key z .opening (x .reserved) (volumeIn d) st)) (go (volumeLoanOk (volumeIn d)))
+    where
+      go : (ok : Bool) → Leads tag g v₀ X l (byOpen d st (keyRefusal ok))
+      go true = kept-as d l off A
+      go false = kept-as d l off A
+
+  keyed-write : (d : Medium) (l : Ledger) (s : State) (st key : List ℕ) (n : ℕ) (b : List ℕ) (z : keyOk key ≡ false) → Lives tag g v₀ d l (on s st)
+      → EventLeads d l (on s st) (aKeyedWrite key n b z)
+  keyed-write d l s st key n b z A =
+      subst (λ (o : WriteResult). Leads tag g v₀ X l (byWrite d n b o)) (sym (keyed-calls .refused key z .write s st n b))
+      (go (stateOk s && (stagingOk (s .layout) st && sectorOk b)))
+    where
+      go : (ok : Bool) → Leads tag g v₀ X l (byWrite d n b (record { answer = keyRefusal ok; state = s; staging = st }))
+      go true = kept-as d l (on s st) A
+      go false = kept-as d l (on s st) A
+
   pub plays : (d : Medium) (l : Ledger) (e : Event) (y : Live) → Lives tag g v₀ d l y → EventLeads d l y e
   plays d l aCut y A = record { lives = stopped (cuts tag g v₀ X d l y A) refl refl; fills = λ q. never q }
   plays d l (anOpen st) y A = opens d l st y A
@@ -203,6 +227,12 @@ module _ (tags : Tags) (g : Layout) (v₀ : List ℕ) (X : Premises (tags (g .wi
   plays d l (aNextStore b) (on s st) A = owners d l s st b A
   plays d l (aRead n b) off A = kept-as d l off A
   plays d l (aRead n b) (on s st) A = kept-as d l (on s st) A
+  plays d l (aKeyedOpen key st z) off A = keyed-open d l key st z A
+  plays d l (aKeyedOpen key st z) (on s b) A = kept-as d l (on s b) A
+  plays d l (aKeyedWrite key n b z) off A = kept-as d l off A
+  plays d l (aKeyedWrite key n b z) (on s st) A = keyed-write d l s st key n b z A
+  plays d l (aKeyedRead key n b z) off A = kept-as d l off A
+  plays d l (aKeyedRead key n b z) (on s st) A = kept-as d l (on s st) A
 
   -- ---- a list of events: the world and the ledger, side by side
 
@@ -274,15 +304,23 @@ demand3 tags g sz v e es q =
     let X : Premises (tags (g .width)) g (formatOf tags g v .volume) = setting (tags (g .width)) g sz (formatOf tags g v .volume) F in
     agrees tags g v₀ X _ _ (lasts tags g v₀ X (begin v₀) start es (starts tags g v₀ X F)) q
 
--- the tag of R14 has T bytes, for every T in range
-pub length-tagOf : (t : ℕ) → t ≤ 32 → (s : ℕ) (b : List ℕ) → length (tagOf t s b) ≡ t
-length-tagOf t h s b = length-take-le t (sha256 (le 8 s ++ b)) (rw (length-sha256 (le 8 s ++ b)) h)
+pub length-hmac : (key m : List ℕ) → length (hmac key m) ≡ digestSize
+unfolding hmac
+length-hmac key m = length-sha256 _
 
-pub formatted-length : (g : Layout) (v : List ℕ) → formatOf tagOf g v .answer ≡ passed → (s : ℕ) (b : List ℕ) → length (tagOf (g .width) s b) ≡ g .width
-formatted-length g v e = length-tagOf (g .width) (ranged g (format-layout tagOf g v e) .t .bound)
+-- what gives a digest's length gives tags of T bytes, for every T in range
+pub length-tagsBy : (d : List ℕ → List ℕ) → ((m : List ℕ) → length (d m) ≡ digestSize) → (t : ℕ) → t ≤ 32 → (s : ℕ) (b : List ℕ) → length (tagsBy d t s b) ≡ t
+length-tagsBy d full t h s b = length-take-le t (d (le 8 s ++ b)) (rw (full (le 8 s ++ b)) h)
+
+pub formatted-length : (d : List ℕ → List ℕ) → ((m : List ℕ) → length (d m) ≡ digestSize) → (g : Layout) (v : List ℕ)
+    → formatOf (tagsBy d) g v .answer ≡ passed → TagsOf (tagsBy d) (g .width)
+formatted-length d full g v e = length-tagsBy d full (g .width) (ranged g (format-layout (tagsBy d) g v e) .t .bound)
 
 pub demand3-sha256 : Demand3Sha256
-demand3-sha256 g v e = demand3 tagOf g (formatted-length g v e) v e
+demand3-sha256 g v e = demand3 tagOf g (formatted-length sha256 length-sha256 g v e) v e
+
+pub demand3-hmac : Demand3Hmac
+demand3-hmac key g v e = demand3 (hmacTagOf key) g (formatted-length (hmac key) (length-hmac key) g v e) v e
 
 -- a volume that format left
 pub fresh-opens : FreshOpens

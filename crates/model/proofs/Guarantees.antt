@@ -11,6 +11,9 @@ use lib.Dec.{eqb}
 use borrow.Author.Tests.{eq-eqb, ne-eqb, lt-ltb, le-ltb}
 use Rattle.octets.specs.Answer.{taken, refusal, refuse, isTaken}
 use Rattle.octets.proofs.Answers.{taken-same, refused-not-taken}
+use Rattle.digest.specs.Sha256.{sha256}
+use Rattle.digest.specs.Sha256.Promise.{length-sha256}
+use Rattle.hmac.specs.Hmac.{hmac}
 use Rattle.on_disk.specs.declared.Layout.{Layout}
 use Rattle.model.specs.declared.Phase.{Phase}
 use Rattle.model.specs.declared.Phase.the-variants.{Committing, WritingBack, Recovering}
@@ -18,7 +21,7 @@ use Rattle.model.specs.declared.State.{State}
 use Rattle.on_disk.specs.Layout.{sectionSize, needed}
 use Rattle.on_disk.specs.Section.{Entry, entryOf, emptySection}
 use Rattle.model.specs.Journal.{greatestId, replay}
-use Rattle.model.specs.Tag.{Tag, Tags, tagOf}
+use Rattle.model.specs.Tag.{Tag, Tags, tagOf, hmacTagOf}
 use Rattle.model.specs.Store.{stepsOf}
 use Rattle.model.specs.State.{stagingOk, passed}
 use Rattle.model.specs.Step.{phaseStep, stepOf}
@@ -35,11 +38,11 @@ use Rattle.model.proofs.Steps.{live-runs, replay-stays, recover-next}
 use Rattle.model.proofs.Opens.{decoded, open-runs, open-refused}
 use Rattle.model.proofs.Replays.{Which, isTrue, isFalse, which}
 use Rattle.model.specs.Format.{formatOf}
-use Rattle.model.specs.Guarantees.{Outside, Guarantees, Guaranteed, GuaranteedSha256}
+use Rattle.model.specs.Guarantees.{Outside, Guarantees, Guaranteed, GuaranteedSha256, GuaranteedHmac}
 use Rattle.model.proofs.Cuts.{cuts}
 use Rattle.model.proofs.Volumes.{part-bytes}
 use Rattle.model.proofs.Formats.{Fresh, format-fresh}
-use Rattle.model.proofs.Demand3.{formatted-length, setting, I, starts, plays, lasts}
+use Rattle.model.proofs.Demand3.{length-hmac, formatted-length, setting, I, starts, plays, lasts}
 
 staging-ok : (g : Layout) (st : List ℕ) → length st ≡ sectionSize (g .width) * 512 → stagingOk g st ≡ true
 unfolding stagingOk
@@ -241,4 +244,7 @@ guaranteed tags g sz v e es =
     (lasts tags g (formatOf tags g v .volume) X (begin (formatOf tags g v .volume)) start es (starts tags g (formatOf tags g v .volume) X F))
 
 pub guaranteed-sha256 : GuaranteedSha256
-guaranteed-sha256 g v e = guaranteed tagOf g (formatted-length g v e) v e
+guaranteed-sha256 g v e = guaranteed tagOf g (formatted-length sha256 length-sha256 g v e) v e
+
+pub guaranteed-hmac : GuaranteedHmac
+guaranteed-hmac key g v e = guaranteed (hmacTagOf key) g (formatted-length (hmac key) (length-hmac key) g v e) v e

@@ -20,6 +20,8 @@ pub mod Demand3
 pub mod Guarantees
 pub mod Advances
 pub mod ReadBack
+pub mod Keyed
+pub mod WrongKey
 pub mod FirstRule
 pub mod NextStore
 pub mod Refusals

@@ -6,6 +6,7 @@
 -- Demand3For tags g v     : the claim for one family of tag functions, layout and lent volume
 -- Demand3                 : demand 3: any tag functions of which that for T gives tags of T bytes, any layout, any volume
 -- Demand3Sha256           : demand 3 for the tag of R14, where nothing is left to assume
+-- Demand3Hmac             : demand 3 for the tags of any key, R105, likewise; that calls with a key are calls over its tags is in Keyed
 use Prim.Native.Nat.{ℕ, _+_, _*_, _<_}
 use mathlib.Core.Bool.{true}
 use mathlib.Core.Path.{_≡_}
@@ -15,7 +16,7 @@ use Rattle.octets.specs.Sectors.{sectorSize, sectorAt}
 use Rattle.on_disk.specs.declared.Layout.{Layout}
 use Rattle.model.specs.declared.State.{State}
 use Rattle.on_disk.specs.Layout.{superblockSize, dataAt}
-use Rattle.model.specs.Tag.{Tags, TagsOf, tagOf, tagAt}
+use Rattle.model.specs.Tag.{Tags, TagsOf, tagOf, hmacTagOf, tagAt}
 use Rattle.model.specs.State.{passed}
 use Rattle.model.specs.Format.{formatOf}
 use Rattle.model.specs.JournalStep.{commitSteps}
@@ -53,3 +54,6 @@ Demand3 = (tags : Tags) (g : Layout) → TagsOf tags (g .width) → (v : List �
 
 abbrev pub Demand3Sha256 : Type 0
 Demand3Sha256 = (g : Layout) (v : List ℕ) → Demand3For tagOf g v
+
+abbrev pub Demand3Hmac : Type 0
+Demand3Hmac = (key : List ℕ) (g : Layout) (v : List ℕ) → Demand3For (hmacTagOf key) g v

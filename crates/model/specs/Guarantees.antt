@@ -3,7 +3,8 @@
 --
 -- Outside g b          : byte b is in no journal sector, in no data sector and in no tag: reserved (R16), superblock, tag padding (R20), behind the runs (R24)
 -- Guarantees ..        : what holds of them
--- Guaranteed           : that it does, over any family of tag functions; GuaranteedSha256: for the tag of R14, where nothing is left to assume
+-- Guaranteed           : that it does, over any family of tag functions; GuaranteedSha256, GuaranteedHmac: for the tags of R14, and of any key (R105), where
+--                        nothing is left to assume
 -- FreshOpens           : a volume that format left holds the layout that was formatted, and an open finds nothing to replay
 use Prim.Native.Nat.{ℕ, _+_, _*_, _≤_, _<_}
 use mathlib.Core.Bool.{true}
@@ -20,7 +21,7 @@ use Rattle.model.specs.declared.State.{State}
 use Rattle.on_disk.specs.Layout.{sectionSize, sectionAt, base, dataAt, tagByte, needed}
 use Rattle.on_disk.specs.Superblock.{superblockAt, layoutIn}
 use Rattle.on_disk.specs.Section.{emptySection}
-use Rattle.model.specs.Tag.{Tags, TagsOf, tagOf}
+use Rattle.model.specs.Tag.{Tags, TagsOf, tagOf, hmacTagOf}
 use Rattle.model.specs.State.{passed}
 use Rattle.model.specs.Format.{formatOf}
 use Rattle.model.specs.Open.{openOf}
@@ -67,6 +68,9 @@ Guaranteed = (tags : Tags) (g : Layout) → TagsOf tags (g .width) → (v : List
 
 abbrev pub GuaranteedSha256 : Type 0
 GuaranteedSha256 = (g : Layout) (v : List ℕ) → GuaranteedFor tagOf g v
+
+abbrev pub GuaranteedHmac : Type 0
+GuaranteedHmac = (key : List ℕ) (g : Layout) (v : List ℕ) → GuaranteedFor (hmacTagOf key) g v
 
 pub record OpensFresh (tags : Tags) (g : Layout) (v₀ : List ℕ) : Type 0 where
   pub queried : queryOf (g .reserved) v₀ ≡ taken (g, sectionSize (g .width) * sectorSize)

@@ -16,6 +16,8 @@ pub mod Step
 pub mod NextStore
 pub mod Advance
 pub mod Read
+pub mod Keyed
+pub mod WrongKey
 pub mod FirstRule
 pub mod Reserved
 pub mod ReadBack

@@ -1,8 +1,8 @@
 -- Lists of calls and cuts, and what they leave. Calls are made by the definitions that the contracts of the code cite.
 --
 -- Event           : a cut, or a call with the arguments that are not handed back, which may be anything (R59); also a step by next_store whose store
---                   the volume's owner makes
--- Setting         : what all calls of a list share: the tag functions, and r
+--                   the volume's owner makes, and a call with a key that no call takes (R106)
+-- Setting         : what all calls of a list share: the tag functions, those of the rule and key in use (R109), and r
 -- Live            : state and staging as last returned or left; there are none at first and after a cut
 -- World           : the medium, what is live, and whether the last event was an open that reports no store to come or a step that says filling (R66)
 -- resting m y     : the world after an event that settles nothing; begin v: the world at first
@@ -13,8 +13,10 @@
 use Prim.Native.Nat.{ℕ}
 use mathlib.Core.Bool.{Bool, true, false}
 use mathlib.Core.List.{List, [], _∷_}
+use mathlib.Core.Path.{_≡_}
 use lib.Dec.{eqb}
 use Rattle.octets.specs.Answer.{Answer, taken, refused, isTaken}
+use Rattle.hmac.specs.Hmac.{keyOk}
 use Rattle.on_disk.specs.declared.Layout.{Layout}
 use Rattle.model.specs.declared.State.{State}
 use Rattle.model.specs.Tag.{Tags}
@@ -26,6 +28,7 @@ use Rattle.model.specs.StepResult.{StepResult, stepSettles}
 use Rattle.model.specs.Step.{stepOf}
 use Rattle.model.specs.NextStore.{nextStoreOf, storeNamed}
 use Rattle.model.specs.Read.{readOf}
+use Rattle.model.specs.Keyed.{openKeyedOf, writeKeyedOf, readKeyedOf}
 use Rattle.model.specs.Ledger.{Noted, cut, opened, wrote, flushed, stepped, read}
 use Rattle.model.specs.Medium.{Medium, mediumOf, volumeIn, mediumAfter, mediumCut}
 
@@ -38,6 +41,10 @@ pub data Event : Type 0 where
   -- with any loan for the content; the store that is named is made before any other call
   aNextStore : (loan : List ℕ) → Event
   aRead : (sector : ℕ) (loan : List ℕ) → Event
+  -- with an empty or a too long key; an open, a write or a read with the key in use is one of those above (AsOverTags)
+  aKeyedOpen : (key staging : List ℕ) → keyOk key ≡ false → Event
+  aKeyedWrite : (key : List ℕ) (sector : ℕ) (bytes : List ℕ) → keyOk key ≡ false → Event
+  aKeyedRead : (key : List ℕ) (sector : ℕ) (loan : List ℕ) → keyOk key ≡ false → Event
 
 pub record Setting : Type 0 where
   pub tags : Tags
@@ -96,12 +103,20 @@ module _ (x : Setting) where
   happens m (on s st) (aNextStore b) =
       let o : StepResult = nextStoreOf s (volumeIn m) st b in byStep (mediumOf (storeNamed (volumeIn m) (o .answer) (contentOf b (o .effect)))) o
   happens m (on s st) (aRead n b) = record { world = resting m (on s st); told = read (isTaken (readOf (x .tags) s (volumeIn m) st n b .answer)) }
+  happens m off (aKeyedOpen key st z) =
+      let o : OpenResult = openKeyedOf key (x .reserved) (volumeIn m) st in byOpen m (o .staging) (o .answer)
+  happens m (on s st) (aKeyedWrite key n b z) = byWrite m n b (writeKeyedOf key s st n b)
+  happens m (on s st) (aKeyedRead key n b z) =
+      record { world = resting m (on s st); told = read (isTaken (readKeyedOf key s (volumeIn m) st n b .answer)) }
   happens m (on s st) (anOpen b) = record { world = resting m (on s st); told = opened false }
   happens m off (aWrite n b) = record { world = resting m off; told = wrote false n b }
   happens m off aFlush = record { world = resting m off; told = flushed false }
   happens m off aStep = record { world = resting m off; told = stepped false }
   happens m off (aNextStore b) = record { world = resting m off; told = stepped false }
   happens m off (aRead n b) = record { world = resting m off; told = read false }
+  happens m (on s st) (aKeyedOpen key b z) = record { world = resting m (on s st); told = opened false }
+  happens m off (aKeyedWrite key n b z) = record { world = resting m off; told = wrote false n b }
+  happens m off (aKeyedRead key n b z) = record { world = resting m off; told = read false }
 
   abbrev pub next : World → Event → World
   next w e = happens (w .medium) (w .live) e .world
