@@ -3,12 +3,27 @@
 // What each call returns is defined in specs/Call.antt and specs/Kept.antt; `hmac` itself is in specs/Hmac.antt. Of the digest this crate uses the
 // promise alone.
 ghost use mathlib.Core.Path.{_≡_};
+ghost use mathlib.Core.List.{_++_, map};
+ghost use Prim.Native.Nat.{_+_, _≤_};
+ghost use lib.Bits.{bitXor};
+ghost use lib.ListN.{length};
 ghost use Rattle.octets.specs.Answer.{numberIn};
+ghost use Rattle.digest.specs.Pieces.{limit, absorbOf, closeOf};
 ghost use Rattle.hmac.specs.Answer.{answerOf};
-ghost use Rattle.hmac.specs.Hmac.{keyOk};
+ghost use Rattle.hmac.specs.Hmac.{blockSize, blockOf, keyOk};
+ghost use Rattle.hmac.specs.Kept.{hashBehind, keyOf, resumed, macOf};
+ghost use Rattle.hmac.specs.Call.{messageLimit};
 
 // The longest key that a call takes, in bytes.
 pub const MOST_KEY: usize = 256;
+
+// The bytes of a block of SHA-256.
+const BLOCK_SIZE: usize = 64;
+
+// The bytes of the two pads.
+const IPAD: u8 = 0x36;
+
+const OPAD: u8 = 0x5c;
 
 // What is kept of a key: the hash values behind the two padded blocks. Any value of it may be handed in.
 pub struct Key {
@@ -48,4 +63,93 @@ pub fn key_ok(key: &[u8]) -> bool
     ensures { λ r. ⌜ r ≡ keyOk (now (key .entry)) ⌝ }
 {
     (1 <= key.len()) & (key.len() <= MOST_KEY)
+}
+
+// The key as one block.
+fn key_block(key: &[u8]) -> [u8; 64]
+    requires { ⌜ length (now key) ≤ limit ⌝ }
+    ensures { λ r. ⌜ r ≡ blockOf (now (key .entry)) ⌝ }
+{
+    let mut block = [0u8; 64];
+    if BLOCK_SIZE < key.len() {
+        let closed = digest::sha256(key);
+        let bytes = closed.digest;
+        octets::copy_at(&mut block, 0, &bytes, 0, 32);
+        return block;
+    }
+    octets::copy_at(&mut block, 0, key, 0, key.len());
+    block
+}
+
+// A block, each byte xored with x.
+fn xored(block: [u8; 64], x: u8) -> [u8; 64]
+    ensures { λ r. ⌜ r ≡ map (λ b. bitXor b x) block ⌝ }
+{
+    let mut out = [0u8; 64];
+    let mut i: usize = 0;
+    while i < BLOCK_SIZE {
+        out[i] = block[i] ^ x;
+        i += 1;
+    }
+    out
+}
+
+// The hash value behind one block.
+fn hash_behind(block: [u8; 64]) -> [u32; 8]
+    ensures { λ r. ⌜ r ≡ hashBehind block ⌝ }
+{
+    let updated = digest::update(digest::fresh(), &block);
+    let s = updated.state;
+    s.words
+}
+
+// What is kept of a key.
+pub fn keep(key: &[u8]) -> Key
+    requires { ⌜ length (now key) ≤ limit ⌝ }
+    ensures { λ r. ⌜ r ≡ keyOf (now (key .entry)) ⌝ }
+{
+    let block = key_block(key);
+    let inner = hash_behind(xored(block, IPAD));
+    let outer = hash_behind(xored(block, OPAD));
+    Key {
+        inner: inner,
+        outer: outer,
+    }
+}
+
+// The digest's state behind one block.
+fn resume(h: [u32; 8]) -> digest::State
+    ensures { λ r. ⌜ r ≡ resumed h ⌝ }
+{
+    digest::State {
+        words: h,
+        tail: [0u8; 64],
+        count: 64,
+    }
+}
+
+// The outer digest: that of an inner one, behind one block.
+fn outer_digest(h: [u32; 8], inner: [u8; 32]) -> [u8; 32]
+    ensures { λ r. ⌜ r ≡ closeOf (absorbOf (resumed h) inner) ⌝ }
+{
+    let all = digest::update(resume(h), &inner);
+    let s = all.state;
+    let closed = digest::finish(s);
+    closed.digest
+}
+
+// What a kept key gives for a message that is lent in two parts: a sector's number and its bytes.
+pub fn mac_of_two(key: Key, first: &[u8], second: &[u8]) -> [u8; 32]
+    requires { ⌜ length (now first) + length (now second) ≤ messageLimit ⌝ }
+    ensures { λ r. ⌜ (r ≡ macOf key (now (first .entry) ++ now (second .entry))) × (length r ≡ 32) ⌝ }
+{
+    let inner = key.inner;
+    let outer = key.outer;
+    let one = digest::update(resume(inner), first);
+    let s = one.state;
+    let both = digest::update(s, second);
+    let t = both.state;
+    let closed = digest::finish(t);
+    let bytes = closed.digest;
+    outer_digest(outer, bytes)
 }
