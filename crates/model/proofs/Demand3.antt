@@ -13,6 +13,7 @@ use Rattle.octets.specs.Numbers.{le}
 use Rattle.digest.specs.Sha256.{digestSize, sha256}
 use Rattle.digest.specs.Sha256.Promise.{length-sha256}
 use Rattle.hmac.specs.Hmac.{keyOk, hmac}
+use Rattle.hmac.proofs.Theorems.{mac-length}
 use Rattle.octets.specs.Choice.{pick, firstMet}
 use Rattle.octets.proofs.Choice.{passes}
 use Rattle.octets.specs.Parts.{same}
@@ -304,10 +305,6 @@ demand3 tags g sz v e es q =
     let X : Premises (tags (g .width)) g (formatOf tags g v .volume) = setting (tags (g .width)) g sz (formatOf tags g v .volume) F in
     agrees tags g v₀ X _ _ (lasts tags g v₀ X (begin v₀) start es (starts tags g v₀ X F)) q
 
-pub length-hmac : (key m : List ℕ) → length (hmac key m) ≡ digestSize
-unfolding hmac
-length-hmac key m = length-sha256 _
-
 -- what gives a digest's length gives tags of T bytes, for every T in range
 pub length-tagsBy : (d : List ℕ → List ℕ) → ((m : List ℕ) → length (d m) ≡ digestSize) → (t : ℕ) → t ≤ 32 → (s : ℕ) (b : List ℕ) → length (tagsBy d t s b) ≡ t
 length-tagsBy d full t h s b = length-take-le t (d (le 8 s ++ b)) (rw (full (le 8 s ++ b)) h)
@@ -320,7 +317,7 @@ pub demand3-sha256 : Demand3Sha256
 demand3-sha256 g v e = demand3 tagOf g (formatted-length sha256 length-sha256 g v e) v e
 
 pub demand3-hmac : Demand3Hmac
-demand3-hmac key g v e = demand3 (hmacTagOf key) g (formatted-length (hmac key) (length-hmac key) g v e) v e
+demand3-hmac key g v e = demand3 (hmacTagOf key) g (formatted-length (hmac key) (mac-length key) g v e) v e
 
 -- a volume that format left
 pub fresh-opens : FreshOpens

@@ -14,6 +14,7 @@ use Rattle.octets.proofs.Answers.{taken-same, refused-not-taken}
 use Rattle.digest.specs.Sha256.{sha256}
 use Rattle.digest.specs.Sha256.Promise.{length-sha256}
 use Rattle.hmac.specs.Hmac.{hmac}
+use Rattle.hmac.proofs.Theorems.{mac-length}
 use Rattle.on_disk.specs.declared.Layout.{Layout}
 use Rattle.model.specs.declared.Phase.{Phase}
 use Rattle.model.specs.declared.Phase.the-variants.{Committing, WritingBack, Recovering}
@@ -42,7 +43,7 @@ use Rattle.model.specs.Guarantees.{Outside, Guarantees, Guaranteed, Guar
 use Rattle.model.proofs.Cuts.{cuts}
 use Rattle.model.proofs.Volumes.{part-bytes}
 use Rattle.model.proofs.Formats.{Fresh, format-fresh}
-use Rattle.model.proofs.Demand3.{length-hmac, formatted-length, setting, I, starts, plays, lasts}
+use Rattle.model.proofs.Demand3.{formatted-length, setting, I, starts, plays, lasts}
 
 staging-ok : (g : Layout) (st : List ℕ) → length st ≡ sectionSize (g .width) * 512 → stagingOk g st ≡ true
 unfolding stagingOk
@@ -247,4 +248,4 @@ pub guaranteed-sha256 : GuaranteedSha256
 guaranteed-sha256 g v e = guaranteed tagOf g (formatted-length sha256 length-sha256 g v e) v e
 
 pub guaranteed-hmac : GuaranteedHmac
-guaranteed-hmac key g v e = guaranteed (hmacTagOf key) g (formatted-length (hmac key) (length-hmac key) g v e) v e
+guaranteed-hmac key g v e = guaranteed (hmacTagOf key) g (formatted-length (hmac key) (mac-length key) g v e) v e

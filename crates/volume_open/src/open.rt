@@ -14,6 +14,7 @@ use section::UNUSED;
 use sound::state;
 use sound::state::LAST_ID;
 use sound::tag;
+use sound::tag::Rule;
 ghost use mathlib.Core.Bool.{true};
 ghost use mathlib.Core.Path.{_≡_};
 ghost use Prim.Native.Nat.{_*_, _≤_, _<_};
@@ -27,7 +28,9 @@ ghost use Rattle.model.specs.Tag.{tagOf};
 ghost use Rattle.model.specs.Refusal.{openAnswer};
 ghost use Rattle.model.specs.State.{passed};
 ghost use Rattle.model.specs.Open.{superblockRows, entriesVerdict, phaseFor, openWith, openOf};
+ghost use Rattle.model.specs.Keyed.{openKeyedOf};
 ghost use Rattle.journal.specs.Replay.{idsOf};
+ghost use Rattle.sound.specs.Rule.{tagBy};
 ghost use Rattle.volume_open.specs.Results.{checked};
 
 // What the check of entries to be replayed found.
@@ -37,9 +40,9 @@ enum Check {
 }
 
 // Whether entry i of section k, if it is used, can be replayed.
-fn check_entry(g: Layout, section: &[u8], k: usize, i: usize) -> Check
+fn check_entry(rule: Rule, g: Layout, section: &[u8], k: usize, i: usize) -> Check
     requires { ⌜ (layoutOk g ≡ true) × (length (now section) ≡ sectionSize (g .width) * sectorSize) × (i < entryCount (g .width)) ⌝ }
-    ensures { λ r. ⌜ checked r ≡ entriesVerdict (tagOf (g .width)) g (usedEntry k i (entryOf (g .width) (now (section .entry)) i)) ⌝ }
+    ensures { λ r. ⌜ checked r ≡ entriesVerdict (tagBy rule (g .width)) g (usedEntry k i (entryOf (g .width) (now (section .entry)) i)) ⌝ }
 {
     let sector = section::entry_sector(section, g.width, i);
     if sector == UNUSED {
@@ -50,7 +53,7 @@ fn check_entry(g: Layout, section: &[u8], k: usize, i: usize) -> Check
     }
     let mut bytes = [0u8; SECTOR_SIZE];
     section::entry_data(section, g.width, i, &mut bytes);
-    let digest = tag::tag(sector as usize, &bytes);
+    let digest = tag::tag(rule, sector as usize, &bytes);
     let stored = section::entry_tag(section, g.width, i);
     if !octets::same_at(stored, 0, &digest, 0, g.width) {
         return Check::Refused(Refusal::JournalTagMismatch(k, i));
@@ -59,14 +62,14 @@ fn check_entry(g: Layout, section: &[u8], k: usize, i: usize) -> Check
 }
 
 // Whether every used entry of section k can be replayed; else the refusal for the first that cannot.
-fn check_section(g: Layout, section: &[u8], k: usize) -> Check
+fn check_section(rule: Rule, g: Layout, section: &[u8], k: usize) -> Check
     requires { ⌜ (layoutOk g ≡ true) × (length (now section) ≡ sectionSize (g .width) * sectorSize) ⌝ }
-    ensures { λ r. ⌜ checked r ≡ entriesVerdict (tagOf (g .width)) g (usedOf (g .width) k (now (section .entry))) ⌝ }
+    ensures { λ r. ⌜ checked r ≡ entriesVerdict (tagBy rule (g .width)) g (usedOf (g .width) k (now (section .entry))) ⌝ }
 {
     let count = layout::entry_count(g.width);
     let mut i = 0;
     while i < count {
-        let check = check_entry(g, section, k, i);
+        let check = check_entry(rule, g, section, k, i);
         match check {
             Check::Passed => {}
             Check::Refused(_) => return check,
@@ -77,13 +80,13 @@ fn check_section(g: Layout, section: &[u8], k: usize) -> Check
 }
 
 // Whether every entry to be replayed can be, in replay order.
-fn check_replay(ids: &[u64; MOST_SECTIONS], v: &[u8], g: Layout) -> Check
+fn check_replay(rule: Rule, ids: &[u64; MOST_SECTIONS], v: &[u8], g: Layout) -> Check
     requires { ⌜ (layoutOk g ≡ true) × (needed g * sectorSize ≤ length (now v)) × (now ids ≡ idsOf g (now v)) ⌝ }
-    ensures { λ r. ⌜ checked r ≡ entriesVerdict (tagOf (g .width)) g (replay g (now (v .entry))) ⌝ }
+    ensures { λ r. ⌜ checked r ≡ entriesVerdict (tagBy rule (g .width)) g (replay g (now (v .entry))) ⌝ }
 {
     let mut k = sections::next_section(ids, g.sections, 0, 0);
     while k < g.sections {
-        let check = check_section(g, sections::section_of(v, g, k), k);
+        let check = check_section(rule, g, sections::section_of(v, g, k), k);
         match check {
             Check::Passed => {}
             Check::Refused(_) => return check,
@@ -104,9 +107,9 @@ fn phase_for(stores: usize) -> Phase
 }
 
 // Opens a volume whose superblock and length are as they must be.
-fn open_journal(v: &[u8], st: &mut [u8], g: Layout) -> OpenAnswer
+fn open_journal(rule: Rule, v: &[u8], st: &mut [u8], g: Layout) -> OpenAnswer
     requires { ⌜ (layoutOk g ≡ true) × (needed g * sectorSize ≤ length (now v)) × (firstMet (superblockRows g (g .reserved) (now v)) passed ≡ passed) ⌝ }
-    ensures { λ a. ⌜ record { answer = openAnswer a; staging = now (st .exit) } ≡ openWith tagOf g (g .reserved) (now (v .entry)) (now (st .entry)) ⌝ }
+    ensures { λ a. ⌜ record { answer = openAnswer a; staging = now (st .exit) } ≡ openWith (tagBy rule) g (g .reserved) (now (v .entry)) (now (st .entry)) ⌝ }
 {
     if !state::staging_ok(g, st) {
         return OpenAnswer::Refused(Refusal::Malformed);
@@ -122,7 +125,7 @@ fn open_journal(v: &[u8], st: &mut [u8], g: Layout) -> OpenAnswer
     if misplaced < count {
         return OpenAnswer::Refused(Refusal::Misplaced(misplaced));
     }
-    let check = check_replay(&ids, v, g);
+    let check = check_replay(rule, &ids, v, g);
     match check {
         Check::Passed => {}
         Check::Refused(refusal) => return OpenAnswer::Refused(refusal),
@@ -138,14 +141,34 @@ fn open_journal(v: &[u8], st: &mut [u8], g: Layout) -> OpenAnswer
     OpenAnswer::Opened(opened, stores)
 }
 
+// Opens by any rule.
+fn open_by(rule: Rule, v: &[u8], st: &mut [u8], r: usize) -> OpenAnswer
+    ensures { λ a. ⌜ record { answer = openAnswer a; staging = now (st .exit) } ≡ openOf (tagBy rule) r (now (v .entry)) (now (st .entry)) ⌝ }
+{
+    let held = query::query(v, r);
+    match held {
+        QueryAnswer::Holds(g, _) => open_journal(rule, v, st, g),
+        QueryAnswer::Refused(refusal) => OpenAnswer::Refused(refusal),
+    }
+}
+
 // Checks volume and journal, makes the staging loan an empty batch, and gives the state and the number of stores that replay the journal. It stores
 // nothing on the volume.
 pub fn open(v: &[u8], st: &mut [u8], r: usize) -> OpenAnswer
     ensures { λ a. ⌜ record { answer = openAnswer a; staging = now (st .exit) } ≡ openOf tagOf r (now (v .entry)) (now (st .entry)) ⌝ }
 {
-    let held = query::query(v, r);
-    match held {
-        QueryAnswer::Holds(g, _) => open_journal(v, st, g),
-        QueryAnswer::Refused(refusal) => OpenAnswer::Refused(refusal),
+    open_by(tag::plain(), v, st, r)
+}
+
+// Opens a volume whose tags are under a key (R105, R106).
+pub fn open_keyed(v: &[u8], st: &mut [u8], r: usize, key: &[u8]) -> OpenAnswer
+    ensures { λ a. ⌜ record { answer = openAnswer a; staging = now (st .exit) } ≡ openKeyedOf (now (key .entry)) r (now (v .entry)) (now (st .entry)) ⌝ }
+{
+    if !layout::volume_loan_ok(v) {
+        return OpenAnswer::Refused(Refusal::Malformed);
     }
+    if !hmac::key_ok(key) {
+        return OpenAnswer::Refused(Refusal::Parameter);
+    }
+    open_by(tag::by_key(key), v, st, r)
 }

@@ -6,7 +6,8 @@ use model::State;
 use on_disk::Layout;
 use sound::state;
 use sound::tag;
-ghost use mathlib.Core.Bool.{true};
+use sound::tag::Rule;
+ghost use mathlib.Core.Bool.{true, _&&_};
 ghost use mathlib.Core.Path.{_≡_};
 ghost use Prim.Native.Nat.{_*_, _≤_, _<_};
 ghost use lib.ListN.{length};
@@ -15,8 +16,10 @@ ghost use Rattle.octets.specs.Sectors.{sectorSize, sectorAt};
 ghost use Rattle.on_disk.specs.Layout.{mostWidth, entryCount, sectionSize, dataAt, needed, layoutOk};
 ghost use Rattle.model.specs.Tag.{tagOf, tagAt};
 ghost use Rattle.model.specs.Refusal.{readAnswer};
-ghost use Rattle.model.specs.Read.{readOf};
-ghost use Rattle.model.specs.Read.{newestFor};
+ghost use Rattle.model.specs.State.{stateOk, volumeOk, stagingOk, sectorOk};
+ghost use Rattle.model.specs.Read.{newestFor, readOf};
+ghost use Rattle.model.specs.Keyed.{readKeyedOf};
+ghost use Rattle.sound.specs.Rule.{tagBy};
 
 // The place of the newest of the first c staged entries for a sector; c where there is none.
 fn newest_for(st: &[u8], t: usize, c: usize, sector: usize) -> usize
@@ -34,33 +37,35 @@ fn newest_for(st: &[u8], t: usize, c: usize, sector: usize) -> usize
 }
 
 // Whether the tag of a sector fits its data.
-fn tag_fits(v: &[u8], g: Layout, sector: usize) -> bool
+fn tag_fits(rule: Rule, v: &[u8], g: Layout, sector: usize) -> bool
     requires { ⌜ (layoutOk g ≡ true) × (needed g * sectorSize ≤ length (now v)) × (sector < g .provided) ⌝ }
-    ensures { λ r. ⌜ r ≡ same (tagAt g (now (v .entry)) sector) (tagOf (g .width) sector (sectorAt (now (v .entry)) (dataAt g sector))) ⌝ }
+    ensures { λ r. ⌜ r ≡ same (tagAt g (now (v .entry)) sector) (tagBy rule (g .width) sector (sectorAt (now (v .entry)) (dataAt g sector))) ⌝ }
 {
     let start = layout::data_at(g, sector) * SECTOR_SIZE;
     let end = start + SECTOR_SIZE;
-    let digest = tag::tag(sector, &v[start..end]);
+    let digest = tag::tag(rule, sector, &v[start..end]);
     octets::same_at(v, layout::tag_byte(g, sector), &digest, 0, g.width)
 }
 
-// Gives the newest entry for a sector in staging; else the volume's data if its tag fits.
-pub fn read(s: State, v: &[u8], st: &[u8], sector: usize, bytes: &mut [u8]) -> ReadAnswer
-    ensures { λ r. ⌜ record { answer = readAnswer r; sector = now (bytes .exit) } ≡ readOf tagOf s (now (v .entry)) (now (st .entry)) sector (now (bytes .entry)) ⌝ }
+// The first check: whether the state is sound, the volume one that it fits, and each other loan of its length.
+fn loans_ok(s: State, v: &[u8], st: &[u8], bytes: &[u8]) -> bool
+    ensures { λ r. ⌜ r ≡ stateOk s && (volumeOk s (now (v .entry)) && (stagingOk (s .layout) (now (st .entry)) && sectorOk (now (bytes .entry)))) ⌝ }
 {
     if !state::state_ok(s) {
-        return ReadAnswer::Refused(Refusal::Malformed);
-    }
-    if !state::volume_ok(s, v) {
-        return ReadAnswer::Refused(Refusal::Malformed);
+        return false;
     }
     let g = s.layout;
-    if !state::staging_ok(g, st) {
-        return ReadAnswer::Refused(Refusal::Malformed);
-    }
-    if bytes.len() != SECTOR_SIZE {
-        return ReadAnswer::Refused(Refusal::Malformed);
-    }
+    let volume = state::volume_ok(s, v);
+    let staging = state::staging_ok(g, st);
+    volume & (staging & (bytes.len() == SECTOR_SIZE))
+}
+
+// Reads by any rule, behind the first check.
+fn read_by(rule: Rule, s: State, v: &[u8], st: &[u8], sector: usize, bytes: &mut [u8]) -> ReadAnswer
+    requires { ⌜ stateOk s && (volumeOk s (now v) && (stagingOk (s .layout) (now st) && sectorOk (now bytes))) ≡ true ⌝ }
+    ensures { λ r. ⌜ record { answer = readAnswer r; sector = now (bytes .exit) } ≡ readOf (tagBy rule) s (now (v .entry)) (now (st .entry)) sector (now (bytes .entry)) ⌝ }
+{
+    let g = s.layout;
     let p = s.phase;
     let recovering = state::is_recovering(p);
     let provided = g.provided;
@@ -76,7 +81,7 @@ pub fn read(s: State, v: &[u8], st: &[u8], sector: usize, bytes: &mut [u8]) -> R
         section::entry_data(st, g.width, place, bytes);
         return ReadAnswer::Found;
     }
-    if !tag_fits(v, g, sector) {
+    if !tag_fits(rule, v, g, sector) {
         return ReadAnswer::Refused(Refusal::TagMismatch(sector));
     }
     octets::copy_at(
@@ -87,4 +92,34 @@ pub fn read(s: State, v: &[u8], st: &[u8], sector: usize, bytes: &mut [u8]) -> R
         SECTOR_SIZE,
     );
     ReadAnswer::Found
+}
+
+// Gives the newest entry for a sector in staging; else the volume's data if its tag fits.
+pub fn read(s: State, v: &[u8], st: &[u8], sector: usize, bytes: &mut [u8]) -> ReadAnswer
+    ensures { λ r. ⌜ record { answer = readAnswer r; sector = now (bytes .exit) } ≡ readOf tagOf s (now (v .entry)) (now (st .entry)) sector (now (bytes .entry)) ⌝ }
+{
+    if !loans_ok(s, v, st, bytes) {
+        return ReadAnswer::Refused(Refusal::Malformed);
+    }
+    read_by(tag::plain(), s, v, st, sector, bytes)
+}
+
+// Reads where tags are under a key (R105, R106).
+pub fn read_keyed(
+    s: State,
+    v: &[u8],
+    st: &[u8],
+    sector: usize,
+    bytes: &mut [u8],
+    key: &[u8],
+) -> ReadAnswer
+    ensures { λ r. ⌜ record { answer = readAnswer r; sector = now (bytes .exit) } ≡ readKeyedOf (now (key .entry)) s (now (v .entry)) (now (st .entry)) sector (now (bytes .entry)) ⌝ }
+{
+    if !loans_ok(s, v, st, bytes) {
+        return ReadAnswer::Refused(Refusal::Malformed);
+    }
+    if !hmac::key_ok(key) {
+        return ReadAnswer::Refused(Refusal::Parameter);
+    }
+    read_by(tag::by_key(key), s, v, st, sector, bytes)
 }

@@ -1,0 +1,2 @@
+-- What the tag rules of the code mean.
+pub mod Rule
