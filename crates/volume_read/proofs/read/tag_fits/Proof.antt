@@ -28,7 +28,7 @@ same-at-requires c κs = omega (arith, c .before .tag-byte .ensures .0, c .befor
 
 returns : tie.Need-returns
 returns c =
-    fits-is (c .before .before .before .before .before .before .before .args .g) (c .before .before .before .before .before .before .before .args .v .now) (c .before .before .before .before .before .before .before .args .sector) (c .before .before .before .tag .result) (c .same-at .result) (c .before .before .tag-byte .result) (c .before .before .before .before .before .data-at .result * 512) (c .before .before .before .before .before .data-at .result * 512 + 512)
+    fits-is (c .before .before .before .before .before .before .before .args .rule) (c .before .before .before .before .before .before .before .args .g) (c .before .before .before .before .before .before .before .args .v .now) (c .before .before .before .before .before .before .before .args .sector) (c .before .before .before .tag .result) (c .same-at .result) (c .before .before .tag-byte .result) (c .before .before .before .before .before .data-at .result * 512) (c .before .before .before .before .before .data-at .result * 512 + 512)
     (c .before .before .tag-byte .ensures .0) (ap (λ (x : ℕ). x * 512) (c .before .before .before .before .before .data-at .ensures .0)) refl (c .before .before .before .tag .ensures .0) (c .same-at .ensures)
 
 pub tag-fits-spec : {M : Type 1} → statement M
