@@ -18,11 +18,16 @@ use Rattle.on_disk.specs.Layout.{mostProvided, sectionSize, sectionAt, base, ru
 use Rattle.on_disk.specs.Superblock.{superblockOf, superblockAt, isZero}
 use Rattle.model.specs.State.{passed, volumeLoanOk}
 use Rattle.on_disk.proofs.Addresses.{Ranged, ranged, base-room}
-use Rattle.model.proofs.Demand3.{length-tagOf}
 use Rattle.model.proofs.Formats.{super-length}
 use Rattle.octets.specs.Lists.{collect}
-use Rattle.model.specs.Tag.{Tags, tagOf}
-use Rattle.model.specs.Format.{zeros, freshTags, freshRun, lastRun, lastLength, freshVolume, formatOf}
+use Rattle.model.specs.Tag.{Tag, Tags}
+use Rattle.model.specs.Format.{zeros, freshTags, freshRun, lastRun, lastLength, freshVolume, FormatResult, formatOf}
+use Rattle.model.specs.Keyed.{formatKeyedOf}
+use Rattle.model.proofs.Keyed.{keyed-calls}
+use Rattle.hmac.specs.Hmac.{keyOk}
+use Rattle.sound.specs.declared.tag.Rule.{Rule}
+use Rattle.sound.specs.Rule.{tagBy, keyedOf}
+use Rattle.sound.proofs.Rules.{keyed-tags}
 use Rattle.on_disk.proofs.Sections.{length-collect}
 use Rattle.layout.proofs.Sizes.{width-high, provided-high, run-low, run-high}
 
@@ -64,43 +69,45 @@ module _ (g : Layout) (ok : layoutOk g ≡ true) where
       let a : q * m ≤ mostProvided * m = mul-le-mul-right m h in
       omega (arith, run-high g ok)
 
+-- with tags of T bytes
+module _ (tag : Tag) (g : Layout) (ok : layoutOk g ≡ true) (sized : (s : ℕ) (b : List ℕ) → length (tag s b) ≡ g .width) where
   -- tags, zeros to the end of the tag area, zero data: one patch
   pub run-stored : (q n at : ℕ) (v v₁ v₂ r : List ℕ) (first area : ℕ) → n ≤ runLength g → at + (tagArea g + n) * 512 ≤ length v
       → first ≡ q * runLength g → area ≡ tagArea g * 512
-      → v₁ ≡ patch v at (collect n (λ i. tagOf (g .width) (first + i) (zeros sectorSize)))
+      → v₁ ≡ patch v at (collect n (λ i. tag (first + i) (zeros sectorSize)))
       → v₂ ≡ patch v₁ (at + n * g .width) (replicate (area - n * g .width) 0) → r ≡ patch v₂ (at + area) (replicate (n * 512) 0)
-      → r ≡ patch v at (freshRun (tagOf (g .width)) g q n)
+      → r ≡ patch v at (freshRun tag g q n)
   run-stored q n at v v₁ v₂ r first area h fits ef ea e₁ e₂ er =
-      let T : List ℕ = freshTags (tagOf (g .width)) g q n in
+      let T : List ℕ = freshTags tag g q n in
       let Z : List ℕ = zeros (tagArea g * 512 - n * g .width) in
       let D : List ℕ = zeros (n * 512) in
-      let t : length (freshTags (tagOf (g .width)) g q n) ≡ n * g .width =
-      length-collect (λ i. tagOf (g .width) (q * runLength g + i) (zeros sectorSize)) (g .width) n
-      (λ i l. length-tagOf (g .width) (width-high g ok) (q * runLength g + i) (zeros sectorSize)) in
+      let t : length (freshTags tag g q n) ≡ n * g .width =
+      length-collect (λ i. tag (q * runLength g + i) (zeros sectorSize)) (g .width) n
+      (λ i l. sized (q * runLength g + i) (zeros sectorSize)) in
       let z : length (zeros (tagArea g * 512 - n * g .width)) ≡ tagArea g * 512 - n * g .width = length-replicate (tagArea g * 512 - n * g .width) 0 in
       let d : length (zeros (n * 512)) ≡ n * 512 = length-replicate (n * 512) 0 in
-      let room : n * g .width ≤ tagArea g * 512 = tags-room n h in
-      let a₁ : at + n * g .width ≡ at + length (freshTags (tagOf (g .width)) g q n) = omega arith in
-      let both : length (freshTags (tagOf (g .width)) g q n ++ zeros (tagArea g * 512 - n * g .width)) ≡ tagArea g * 512 =
-      omega (arith, length-append (freshTags (tagOf (g .width)) g q n) (zeros (tagArea g * 512 - n * g .width))) in
-      let a₂ : at + tagArea g * 512 ≡ at + length (freshTags (tagOf (g .width)) g q n ++ zeros (tagArea g * 512 - n * g .width)) = omega arith in
-      let j₁ : patch (patch v at (freshTags (tagOf (g .width)) g q n)) (at + length (freshTags (tagOf (g .width)) g q n)) (zeros (tagArea g * 512 - n * g .width))
-      ≡ patch v at (freshTags (tagOf (g .width)) g q n ++ zeros (tagArea g * 512 - n * g .width)) =
-      patch-join v at (freshTags (tagOf (g .width)) g q n) (zeros (tagArea g * 512 - n * g .width)) (omega arith) in
-      let j₂ = patch-join v at (freshTags (tagOf (g .width)) g q n ++ zeros (tagArea g * 512 - n * g .width)) (zeros (n * 512)) (omega arith) in
-      rw (er, e₂, e₁, ef, ea, a₁, j₁, a₂, j₂) (ap (patch v at) (append-assoc (freshTags (tagOf (g .width)) g q n) (zeros (tagArea g * 512 - n * g .width)) (zeros (n * 512))))
+      let room : n * g .width ≤ tagArea g * 512 = tags-room g ok n h in
+      let a₁ : at + n * g .width ≡ at + length (freshTags tag g q n) = omega arith in
+      let both : length (freshTags tag g q n ++ zeros (tagArea g * 512 - n * g .width)) ≡ tagArea g * 512 =
+      omega (arith, length-append (freshTags tag g q n) (zeros (tagArea g * 512 - n * g .width))) in
+      let a₂ : at + tagArea g * 512 ≡ at + length (freshTags tag g q n ++ zeros (tagArea g * 512 - n * g .width)) = omega arith in
+      let j₁ : patch (patch v at (freshTags tag g q n)) (at + length (freshTags tag g q n)) (zeros (tagArea g * 512 - n * g .width))
+      ≡ patch v at (freshTags tag g q n ++ zeros (tagArea g * 512 - n * g .width)) =
+      patch-join v at (freshTags tag g q n) (zeros (tagArea g * 512 - n * g .width)) (omega arith) in
+      let j₂ = patch-join v at (freshTags tag g q n ++ zeros (tagArea g * 512 - n * g .width)) (zeros (n * 512)) (omega arith) in
+      rw (er, e₂, e₁, ef, ea, a₁, j₁, a₂, j₂) (ap (patch v at) (append-assoc (freshTags tag g q n) (zeros (tagArea g * 512 - n * g .width)) (zeros (n * 512))))
 
-  pub run-size : (q n : ℕ) → n ≤ runLength g → length (freshRun (tagOf (g .width)) g q n) ≡ (tagArea g + n) * 512
+  pub run-size : (q n : ℕ) → n ≤ runLength g → length (freshRun tag g q n) ≡ (tagArea g + n) * 512
   run-size q n h =
-      let t : length (freshTags (tagOf (g .width)) g q n) ≡ n * g .width =
-      length-collect (λ i. tagOf (g .width) (q * runLength g + i) (zeros sectorSize)) (g .width) n
-      (λ i l. length-tagOf (g .width) (width-high g ok) (q * runLength g + i) (zeros sectorSize)) in
+      let t : length (freshTags tag g q n) ≡ n * g .width =
+      length-collect (λ i. tag (q * runLength g + i) (zeros sectorSize)) (g .width) n
+      (λ i l. sized (q * runLength g + i) (zeros sectorSize)) in
       let z : length (zeros (tagArea g * 512 - n * g .width)) ≡ tagArea g * 512 - n * g .width = length-replicate (tagArea g * 512 - n * g .width) 0 in
       let d : length (zeros (n * 512)) ≡ n * 512 = length-replicate (n * 512) 0 in
       omega (
         arith,
-        tags-room n h,
-        length-append (freshTags (tagOf (g .width)) g q n) (zeros (tagArea g * 512 - n * g .width) ++ zeros (n * 512)),
+        tags-room g ok n h,
+        length-append (freshTags tag g q n) (zeros (tagArea g * 512 - n * g .width) ++ zeros (n * 512)),
         length-append (zeros (tagArea g * 512 - n * g .width)) (zeros (n * 512)),
       )
 
@@ -154,34 +161,34 @@ module _ (g : Layout) (ok : layoutOk g ≡ true) (v : List ℕ) (room : needed g
     pub offset-is : (g .provided - 1) / sectors * ((area + sectors) * 512) ≡ lastRun g * ((tagArea g + runLength g) * 512)
     offset-is = ap (λ (x : ℕ). x * ((area + sectors) * 512)) last-is ∙ ap (λ (x : ℕ). lastRun g * x) size-is
 
-  pub tail-stored : (v₁ r : List ℕ) (start place : ℕ) → start ≡ base g * 512 → place ≡ start + lastRun g * ((tagArea g + runLength g) * 512)
-      → v₁ ≡ patch v start (collect (lastRun g) (λ q. freshRun (tagOf (g .width)) g q (runLength g)))
-      → r ≡ patch v₁ place (freshRun (tagOf (g .width)) g (lastRun g) (lastLength g))
-      → r ≡ patch v (base g * 512) (collect (lastRun g) (λ q. freshRun (tagOf (g .width)) g q (runLength g)) ++ freshRun (tagOf (g .width)) g (lastRun g) (lastLength g))
-  tail-stored v₁ r start place es ep e₁ er =
-      let full : length (collect (lastRun g) (λ q. freshRun (tagOf (g .width)) g q (runLength g))) ≡ lastRun g * ((tagArea g + runLength g) * 512) =
-      length-collect (λ q. freshRun (tagOf (g .width)) g q (runLength g)) ((tagArea g + runLength g) * 512) (lastRun g) (λ q l. run-size g ok q (runLength g) (omega arith)) in
-      let last : length (freshRun (tagOf (g .width)) g (lastRun g) (lastLength g)) ≡ (tagArea g + lastLength g) * 512 = run-size g ok (lastRun g) (lastLength g) last-short in
-      let p : place ≡ base g * 512 + length (collect (lastRun g) (λ q. freshRun (tagOf (g .width)) g q (runLength g))) = omega arith in
+  pub tail-stored : (tag : Tag) → ((s : ℕ) (b : List ℕ) → length (tag s b) ≡ g .width) → (v₁ r : List ℕ) (start place : ℕ) → start ≡ base g * 512 → place ≡ start + lastRun g * ((tagArea g + runLength g) * 512)
+      → v₁ ≡ patch v start (collect (lastRun g) (λ q. freshRun tag g q (runLength g)))
+      → r ≡ patch v₁ place (freshRun tag g (lastRun g) (lastLength g))
+      → r ≡ patch v (base g * 512) (collect (lastRun g) (λ q. freshRun tag g q (runLength g)) ++ freshRun tag g (lastRun g) (lastLength g))
+  tail-stored tag sized v₁ r start place es ep e₁ er =
+      let full : length (collect (lastRun g) (λ q. freshRun tag g q (runLength g))) ≡ lastRun g * ((tagArea g + runLength g) * 512) =
+      length-collect (λ q. freshRun tag g q (runLength g)) ((tagArea g + runLength g) * 512) (lastRun g) (λ q l. run-size tag g ok sized q (runLength g) (omega arith)) in
+      let last : length (freshRun tag g (lastRun g) (lastLength g)) ≡ (tagArea g + lastLength g) * 512 = run-size tag g ok sized (lastRun g) (lastLength g) last-short in
+      let p : place ≡ base g * 512 + length (collect (lastRun g) (λ q. freshRun tag g q (runLength g))) = omega arith in
       rw (er, e₁, es, p)
-      (patch-join v (base g * 512) (collect (lastRun g) (λ q. freshRun (tagOf (g .width)) g q (runLength g))) (freshRun (tagOf (g .width)) g (lastRun g) (lastLength g)) (omega (arith, runs-fit)))
+      (patch-join v (base g * 512) (collect (lastRun g) (λ q. freshRun tag g q (runLength g))) (freshRun tag g (lastRun g) (lastLength g)) (omega (arith, runs-fit)))
 
-  pub all-stored : (v₁ r : List ℕ) → v₁ ≡ patch v (g .reserved * 512) (superblockOf g ++ zeros (g .sections * sectionSize (g .width) * 512))
-      → r ≡ patch v₁ (base g * 512) (collect (lastRun g) (λ q. freshRun (tagOf (g .width)) g q (runLength g)) ++ freshRun (tagOf (g .width)) g (lastRun g) (lastLength g))
-      → r ≡ freshVolume (tagOf (g .width)) g v
+  pub all-stored : (tag : Tag) → ((s : ℕ) (b : List ℕ) → length (tag s b) ≡ g .width) → (v₁ r : List ℕ) → v₁ ≡ patch v (g .reserved * 512) (superblockOf g ++ zeros (g .sections * sectionSize (g .width) * 512))
+      → r ≡ patch v₁ (base g * 512) (collect (lastRun g) (λ q. freshRun tag g q (runLength g)) ++ freshRun tag g (lastRun g) (lastLength g))
+      → r ≡ freshVolume tag g v
   unfolding freshVolume
-  all-stored v₁ r e₁ er =
+  all-stored tag sized v₁ r e₁ er =
       let H : List ℕ = superblockOf g ++ zeros (g .sections * sectionSize (g .width) * 512) in
-      let full : length (collect (lastRun g) (λ q. freshRun (tagOf (g .width)) g q (runLength g))) ≡ lastRun g * ((tagArea g + runLength g) * 512) =
-      length-collect (λ q. freshRun (tagOf (g .width)) g q (runLength g)) ((tagArea g + runLength g) * 512) (lastRun g) (λ q l. run-size g ok q (runLength g) (omega arith)) in
-      let last : length (freshRun (tagOf (g .width)) g (lastRun g) (lastLength g)) ≡ (tagArea g + lastLength g) * 512 = run-size g ok (lastRun g) (lastLength g) last-short in
-      let tail = length-append (collect (lastRun g) (λ q. freshRun (tagOf (g .width)) g q (runLength g))) (freshRun (tagOf (g .width)) g (lastRun g) (lastLength g)) in
+      let full : length (collect (lastRun g) (λ q. freshRun tag g q (runLength g))) ≡ lastRun g * ((tagArea g + runLength g) * 512) =
+      length-collect (λ q. freshRun tag g q (runLength g)) ((tagArea g + runLength g) * 512) (lastRun g) (λ q l. run-size tag g ok sized q (runLength g) (omega arith)) in
+      let last : length (freshRun tag g (lastRun g) (lastLength g)) ≡ (tagArea g + lastLength g) * 512 = run-size tag g ok sized (lastRun g) (lastLength g) last-short in
+      let tail = length-append (collect (lastRun g) (λ q. freshRun tag g q (runLength g))) (freshRun tag g (lastRun g) (lastLength g)) in
       let head : length (superblockOf g ++ zeros (g .sections * sectionSize (g .width) * 512)) ≡ 4096 + g .sections * sectionSize (g .width) * 512 =
       length-append (superblockOf g) (zeros (g .sections * sectionSize (g .width) * 512)) ∙ rw (super-length g, length-replicate {A = ℕ} (g .sections * sectionSize (g .width) * 512) 0) in
       let p : base g * 512 ≡ g .reserved * 512 + length (superblockOf g ++ zeros (g .sections * sectionSize (g .width) * 512)) = omega arith in
-      let end : g .reserved * 512 + length ((superblockOf g ++ zeros (g .sections * sectionSize (g .width) * 512)) ++ (collect (lastRun g) (λ q. freshRun (tagOf (g .width)) g q (runLength g)) ++ freshRun (tagOf (g .width)) g (lastRun g) (lastLength g))) ≡ needed g * 512 =
-      omega (arith, runs-bytes, length-append (superblockOf g ++ zeros (g .sections * sectionSize (g .width) * 512)) (collect (lastRun g) (λ q. freshRun (tagOf (g .width)) g q (runLength g)) ++ freshRun (tagOf (g .width)) g (lastRun g) (lastLength g))) in
-      rw (er, e₁, p, patch-join v (g .reserved * 512) (superblockOf g ++ zeros (g .sections * sectionSize (g .width) * 512)) (collect (lastRun g) (λ q. freshRun (tagOf (g .width)) g q (runLength g)) ++ freshRun (tagOf (g .width)) g (lastRun g) (lastLength g)) (omega arith), end)
+      let end : g .reserved * 512 + length ((superblockOf g ++ zeros (g .sections * sectionSize (g .width) * 512)) ++ (collect (lastRun g) (λ q. freshRun tag g q (runLength g)) ++ freshRun tag g (lastRun g) (lastLength g))) ≡ needed g * 512 =
+      omega (arith, runs-bytes, length-append (superblockOf g ++ zeros (g .sections * sectionSize (g .width) * 512)) (collect (lastRun g) (λ q. freshRun tag g q (runLength g)) ++ freshRun tag g (lastRun g) (lastLength g))) in
+      rw (er, e₁, p, patch-join v (g .reserved * 512) (superblockOf g ++ zeros (g .sections * sectionSize (g .width) * 512)) (collect (lastRun g) (λ q. freshRun tag g q (runLength g)) ++ freshRun tag g (lastRun g) (lastLength g)) (omega arith), end)
       (simp append-assoc)
 
 -- ---- the call, a return at a time
@@ -209,3 +216,18 @@ module _ (tags : Tags) (g : Layout) (v : List ℕ) where
         pub formatted : (r : List ℕ) → isZero (superblockAt (g .reserved) v) ≡ true → r ≡ freshVolume (tags (g .width)) g v → record { answer = passed; volume = r } ≡ formatOf tags g v
         unfolding formatOf
         formatted r d e = rw (a, b, le-ltb (length v) (needed g * 512) c, d, e)
+
+-- ---- with a key
+
+module _ (key : List ℕ) (g : Layout) (v : List ℕ) where
+  pub keyed-malformed : volumeLoanOk v ≡ false → record { answer = refuse 1 []; volume = v } ≡ formatKeyedOf key g v
+  unfolding formatKeyedOf
+  keyed-malformed e = rw e
+
+  pub key-refused : volumeLoanOk v ≡ true → keyOk key ≡ false → record { answer = refuse 2 []; volume = v } ≡ formatKeyedOf key g v
+  unfolding formatKeyedOf
+  key-refused ok e = rw (ok, e)
+
+  pub key-taken : (o : FormatResult) → keyOk key ≡ true → (q : Rule) → q ≡ keyedOf key → o ≡ formatOf (tagBy q) g v → o ≡ formatKeyedOf key g v
+  key-taken o ok q eq e =
+      e ∙ ap (λ (x : Rule). formatOf (tagBy x) g v) eq ∙ ap (λ (tags : Tags). formatOf tags g v) (keyed-tags key) ∙ sym (keyed-calls .taken key ok .format g v)

@@ -20,12 +20,12 @@ ghost use Rattle.model.specs.Tag.{tagOf};
 ghost use Rattle.model.specs.Refusal.{formatAnswer};
 ghost use Rattle.model.specs.Format.{zeros, freshRun, formatOf};
 ghost use Rattle.model.specs.Keyed.{formatKeyedOf};
-ghost use Rattle.sound.specs.Rule.{tagBy};
+ghost use Rattle.sound.specs.Rule.{tagBy, RuleOk};
 ghost use Rattle.volume_format.specs.Runs.{freshRuns};
 
 // Stores the tags of the n logical sectors from first on, all zero, from byte at on.
 fn put_tags(rule: Rule, v: &mut [u8], first: usize, n: usize, width: usize, at: usize)
-    requires { ⌜ (width ≤ 32) × (first + n ≤ 2 ^ 32) × (at + n * width ≤ length (now v)) ⌝ }
+    requires { ⌜ (width ≤ 32) × (first + n ≤ 2 ^ 32) × (at + n * width ≤ length (now v)) × RuleOk rule ⌝ }
     ensures { λ r. ⌜ now (v .exit) ≡ patch (now (v .entry)) at (collect n (λ i. tagBy rule width (first + i) (zeros sectorSize))) ⌝ }
 {
     let sector = [0u8; 512];
@@ -39,7 +39,7 @@ fn put_tags(rule: Rule, v: &mut [u8], first: usize, n: usize, width: usize, at: 
 
 // Stores run q with n data sectors, from byte at on: their tags, zeros to the end of the tag area, zero data.
 fn put_run(rule: Rule, v: &mut [u8], g: Layout, q: usize, n: usize, at: usize)
-    requires { ⌜ (layoutOk g ≡ true) × (n ≤ runLength g) × (q ≤ mostProvided) × (at + (tagArea g + n) * sectorSize ≤ length (now v)) ⌝ }
+    requires { ⌜ (layoutOk g ≡ true) × (n ≤ runLength g) × (q ≤ mostProvided) × (at + (tagArea g + n) * sectorSize ≤ length (now v)) × RuleOk rule ⌝ }
     ensures { λ r. ⌜ now (v .exit) ≡ patch (now (v .entry)) at (freshRun (tagBy rule (g .width)) g q n) ⌝ }
 {
     put_tags(rule, v, q * layout::run_length(g), n, g.width, at);
@@ -51,7 +51,7 @@ fn put_run(rule: Rule, v: &mut [u8], g: Layout, q: usize, n: usize, at: usize)
 
 // Stores the first n runs, each with all its data sectors, from byte at on.
 fn put_runs(rule: Rule, v: &mut [u8], g: Layout, n: usize, at: usize)
-    requires { ⌜ (layoutOk g ≡ true) × (n ≤ mostProvided) × (at + n * ((tagArea g + runLength g) * sectorSize) ≤ length (now v)) ⌝ }
+    requires { ⌜ (layoutOk g ≡ true) × (n ≤ mostProvided) × (at + n * ((tagArea g + runLength g) * sectorSize) ≤ length (now v)) × RuleOk rule ⌝ }
     ensures { λ r. ⌜ now (v .exit) ≡ patch (now (v .entry)) at (collect n (λ q. freshRun (tagBy rule (g .width)) g q (runLength g))) ⌝ }
 {
     let sectors = layout::run_length(g);
@@ -77,7 +77,7 @@ fn put_head(v: &mut [u8], g: Layout)
 
 // Stores every run; the last has only the data sectors still needed.
 fn put_tail(rule: Rule, v: &mut [u8], g: Layout)
-    requires { ⌜ (layoutOk g ≡ true) × (needed g * sectorSize ≤ length (now v)) ⌝ }
+    requires { ⌜ (layoutOk g ≡ true) × (needed g * sectorSize ≤ length (now v)) × RuleOk rule ⌝ }
     ensures { λ r. ⌜ now (v .exit) ≡ patch (now (v .entry)) (base g * sectorSize) (freshRuns (tagBy rule (g .width)) g) ⌝ }
 {
     let start = layout::section_at(g, g.sections) * SECTOR_SIZE;
@@ -97,6 +97,7 @@ fn put_tail(rule: Rule, v: &mut [u8], g: Layout)
 
 // Formats by any rule.
 fn format_by(rule: Rule, v: &mut [u8], g: Layout) -> FormatAnswer
+    requires { ⌜ RuleOk rule ⌝ }
     ensures { λ r. ⌜ record { answer = formatAnswer r; volume = now (v .exit) } ≡ formatOf (tagBy rule) g (now (v .entry)) ⌝ }
 {
     let loan_ok = layout::volume_loan_ok(v);

@@ -1,3 +1,4 @@
+use Rattle.layout.proofs.Sizes.{width-high}
 use Prim.Native.Nat.{ℕ, _+_, _-_, _*_, _≤_}
 use mathlib.Core.Path.{refl, ap, _∙_, _≡_}
 use mathlib.Core.Bool.{true}
@@ -6,7 +7,8 @@ use lib.ListN.{length}
 use borrow.Author.Needs.{needs}
 use Rattle.volume_format.proofs.Formats.{chunk-fits, patch-nil, chunk-turn, run-size}
 use Rattle.model.specs.Format.{freshRun}
-use Rattle.model.specs.Tag.{tagOf}
+use Rattle.model.proofs.Demand3.{length-tagsBy}
+use Rattle.sound.specs.Rule.{digestBy, tagBy}
 use Rattle.octets.specs.Lists.{collect}
 use Rattle.on_disk.specs.Layout.{mostProvided, runLength, tagArea, layoutOk}
 use Rattle.octets.specs.Parts.{patch}
@@ -14,10 +16,10 @@ use Rattle.volume_format.proofs.format.put_runs.Statement.{statement}
 use Rattle.volume_format.proofs.format.put_runs.Tie as tie
 
 abbrev Inv-loop : tie.InvT-loop
-Inv-loop v₀ g n at sectors size q₀ v q = (q ≤ n) × (layoutOk g ≡ true) × (n ≤ mostProvided) × (sectors ≡ runLength g) × (size ≡ (tagArea g + runLength g) * 512) × (at + n * size ≤ length v₀) × (length v ≡ length v₀) × (v ≡ patch v₀ at (collect q (λ r. freshRun (tagOf (g .width)) g r (runLength g))))
+Inv-loop rule v₀ g n at sectors size q₀ v q = (q ≤ n) × (layoutOk g ≡ true) × (n ≤ mostProvided) × (sectors ≡ runLength g) × (size ≡ (tagArea g + runLength g) * 512) × (at + n * size ≤ length v₀) × (length v ≡ length v₀) × (v ≡ patch v₀ at (collect q (λ r. freshRun (tagBy rule (g .width)) g r (runLength g))))
 
 abbrev μ-loop : tie.MeasureT-loop
-μ-loop v₀ g n at sectors size q₀ v q = n - q
+μ-loop rule v₀ g n at sectors size q₀ v q = n - q
 
 loop-holds : tie.Need-loop-holds Inv-loop μ-loop
 loop-holds c =
@@ -32,7 +34,7 @@ add-put-run : tie.Need-add-put-run Inv-loop μ-loop
 add-put-run c = record { fits = omega (arith, chunk-fits ((c .before .before .before .tag-area .result + c .before .before .before .before .run-length .result) * 512) (c .before .before .loop .q) (c .before .before .before .before .before .before .args .n) (omega arith)) }
 
 put-run-requires : tie.Need-put-run-requires Inv-loop μ-loop
-put-run-requires c κs = (c .before .before .loop .inv .1, omega (arith, c .before .before .loop .inv .3), omega arith, omega (arith, chunk-fits ((c .before .before .before .tag-area .result + c .before .before .before .before .run-length .result) * 512) (c .before .before .loop .q) (c .before .before .before .before .before .before .args .n) (omega arith), c .before .before .loop .inv .4, c .before .before .loop .inv .3))
+put-run-requires c κs = (c .before .before .loop .inv .1, omega (arith, c .before .before .loop .inv .3), omega arith, omega (arith, chunk-fits ((c .before .before .before .tag-area .result + c .before .before .before .before .run-length .result) * 512) (c .before .before .loop .q) (c .before .before .before .before .before .before .args .n) (omega arith), c .before .before .loop .inv .4, c .before .before .loop .inv .3), c .before .before .before .before .before .before .pre .3)
 
 loop-again : tie.Need-loop-again Inv-loop μ-loop
 loop-again c =
@@ -46,10 +48,10 @@ loop-again c =
       sectors,
       size,
       turn .inv .5,
-      c .before .before .put-run .kept .0 ∙ turn .inv .6,
-      chunk-turn (λ r. freshRun (tagOf (a .g .width)) (a .g) r (runLength (a .g))) ((tagArea (a .g) + runLength (a .g)) * 512) (a .v .now) (turn .v) (a .at) (turn .q) _ (c .before .before .put-run .last .0)
-          (λ r. run-size (a .g) (turn .inv .1) r (runLength (a .g)) (omega arith)) (omega (arith, c .before .before .before .before .before .before .before .before .before .pre .2, chunk-fits ((tagArea (a .g) + runLength (a .g)) * 512) (turn .q) (a .n) (omega arith))) (turn .inv .7) (ap (freshRun (tagOf (a .g .width)) (a .g) (turn .q)) sectors)
-          (c .before .before .put-run .ensures ∙ ap (λ (x : ℕ). patch (turn .v) (a .at + turn .q * x) (freshRun (tagOf (a .g .width)) (a .g) (turn .q) (c .before .before .before .before .before .before .before .run-length .result))) size),
+      c .before .before .put-run .kept .1 .0 ∙ turn .inv .6,
+      chunk-turn (λ r. freshRun (tagBy (a .rule) (a .g .width)) (a .g) r (runLength (a .g))) ((tagArea (a .g) + runLength (a .g)) * 512) (a .v .now) (turn .v) (a .at) (turn .q) _ (c .before .before .put-run .last .1 .0)
+          (λ r. run-size (tagBy (a .rule) (a .g .width)) (a .g) (turn .inv .1) (length-tagsBy (digestBy (a .rule)) (c .before .before .before .before .before .before .before .before .before .pre .3) (a .g .width) (width-high (a .g) (turn .inv .1))) r (runLength (a .g)) (omega arith)) (omega (arith, c .before .before .before .before .before .before .before .before .before .pre .2, chunk-fits ((tagArea (a .g) + runLength (a .g)) * 512) (turn .q) (a .n) (omega arith))) (turn .inv .7) (ap (freshRun (tagBy (a .rule) (a .g .width)) (a .g) (turn .q)) sectors)
+          (c .before .before .put-run .ensures ∙ ap (λ (x : ℕ). patch (turn .v) (a .at + turn .q * x) (freshRun (tagBy (a .rule) (a .g .width)) (a .g) (turn .q) (c .before .before .before .before .before .before .before .run-length .result))) size),
     )
 
 returns : tie.Need-returns Inv-loop μ-loop

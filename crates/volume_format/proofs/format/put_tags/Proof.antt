@@ -3,9 +3,9 @@ use mathlib.Core.Path.{refl, ap, _∙_, _≡_}
 use native.Mathlib.Omega.{arith}
 use lib.ListN.{replicate, length, take}
 use borrow.Author.Needs.{needs}
-use Rattle.model.proofs.Demand3.{length-tagOf}
+use Rattle.model.proofs.Demand3.{length-tagsBy}
 use Rattle.model.specs.Format.{zeros}
-use Rattle.model.specs.Tag.{tagOf}
+use Rattle.sound.specs.Rule.{digestBy, tagBy}
 use Rattle.octets.specs.Lists.{collect}
 use Rattle.octets.specs.Sectors.{sectorSize}
 use Rattle.octets.specs.Parts.{part, patch}
@@ -14,10 +14,10 @@ use Rattle.volume_format.proofs.format.put_tags.Statement.{statement}
 use Rattle.volume_format.proofs.format.put_tags.Tie as tie
 
 abbrev Inv-loop : tie.InvT-loop
-Inv-loop v₀ first n width at sector i₀ v i = (i ≤ n) × (width ≤ 32) × (first + n ≤ 2 ^ 32) × (at + n * width ≤ length v₀) × (sector ≡ replicate 512 0) × (length v ≡ length v₀) × (v ≡ patch v₀ at (collect i (λ i. tagOf width (first + i) (zeros sectorSize))))
+Inv-loop rule v₀ first n width at sector i₀ v i = (i ≤ n) × (width ≤ 32) × (first + n ≤ 2 ^ 32) × (at + n * width ≤ length v₀) × (sector ≡ replicate 512 0) × (length v ≡ length v₀) × (v ≡ patch v₀ at (collect i (λ i. tagBy rule width (first + i) (zeros sectorSize))))
 
 abbrev μ-loop : tie.MeasureT-loop
-μ-loop v₀ first n width at sector i₀ v i = n - i
+μ-loop rule v₀ first n width at sector i₀ v i = n - i
 
 loop-holds : tie.Need-loop-holds Inv-loop μ-loop
 loop-holds c =
@@ -37,15 +37,15 @@ loop-again : tie.Need-loop-again Inv-loop μ-loop
 loop-again c =
     let a = c .before .before .before .before .before .before .before .before .before .before .args in
     let turn = c .before .before .before .before .before .before .before .before .loop in
-    let stored : part (c .before .before .before .before .before .tag .result) 0 (a .width) ≡ tagOf (a .width) (a .first + turn .i) (zeros sectorSize) = ap (take (a .width)) (c .before .before .before .before .before .tag .ensures .0) in (
+    let stored : part (c .before .before .before .before .before .tag .result) 0 (a .width) ≡ tagBy (a .rule) (a .width) (a .first + turn .i) (zeros sectorSize) = ap (take (a .width)) (c .before .before .before .before .before .tag .ensures .0) in (
       omega arith,
       omega arith,
       omega arith,
       omega arith,
       turn .inv .4,
       c .before .before .copy-at .kept .0 ∙ turn .inv .5,
-      chunk-turn (λ i. tagOf (a .width) (a .first + i) (zeros sectorSize)) (a .width) (a .v .now) (turn .v) (a .at) (turn .i) _ (c .before .before .copy-at .last .0)
-          (λ j. length-tagOf (a .width) (omega arith) (a .first + j) (zeros sectorSize)) (omega (arith, chunk-fits (a .width) (turn .i) (a .n) (omega arith))) (turn .inv .6) stored (c .before .before .copy-at .ensures),
+      chunk-turn (λ i. tagBy (a .rule) (a .width) (a .first + i) (zeros sectorSize)) (a .width) (a .v .now) (turn .v) (a .at) (turn .i) _ (c .before .before .copy-at .last .0)
+          (λ j. length-tagsBy (digestBy (a .rule)) (c .before .before .before .before .before .before .before .before .before .before .pre .3) (a .width) (omega arith) (a .first + j) (zeros sectorSize)) (omega (arith, chunk-fits (a .width) (turn .i) (a .n) (omega arith))) (turn .inv .6) stored (c .before .before .copy-at .ensures),
     )
 
 returns : tie.Need-returns Inv-loop μ-loop
