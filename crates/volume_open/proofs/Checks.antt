@@ -16,14 +16,15 @@ use Rattle.octets.specs.Answer as octets
 use Rattle.octets.specs.Choice.{pick}
 use Rattle.octets.specs.Numbers.{le}
 use Rattle.octets.specs.Parts.{part, same}
-use Rattle.digest.specs.Sha256.{sha256}
 use Rattle.on_disk.specs.declared.Layout.{Layout}
 use Rattle.model.specs.declared.Refusal.{Refusal}
 use Rattle.on_disk.specs.Section.{Entry, unused}
 use Rattle.octets.specs.Lists.{collect}
 use Rattle.model.specs.Journal.{sectionOf, dueIds, Found, ordered, Replayed, usedEntry, usedOf, replayIn}
 use Rattle.on_disk.specs.Layout.{layoutOk}
-use Rattle.model.specs.Tag.{Tag, tagOf}
+use Rattle.model.specs.Tag.{Tag}
+use Rattle.sound.specs.declared.tag.Rule.{Rule}
+use Rattle.sound.specs.Rule.{digestBy, tagBy}
 use Rattle.model.specs.Refusal.{refusalOf}
 use Rattle.model.specs.State.{Verdict, passed}
 use Rattle.model.specs.Open.{entriesVerdict}
@@ -34,9 +35,9 @@ use Rattle.volume_open.specs.declared.open.Check.{Check}
 use Rattle.volume_open.specs.declared.open.Check.the-variants.{Passed, Refused}
 
 -- the tag test: the entry's tag, against the first bytes of the digest
-pub entry-fits-is : (t : ℕ) (e : Entry) (n : ℕ) (b d s : List ℕ) (r : Bool) → n ≡ e .sector → b ≡ e .bytes → s ≡ e .tag → length s ≡ t
-    → d ≡ sha256 (le 8 n ++ b) → r ≡ same (part s 0 t) (part d 0 t) → r ≡ same (e .tag) (tagOf t (e .sector) (e .bytes))
-entry-fits-is t e n b d s r en eb es size ed er =
+pub entry-fits-is : (q : Rule) (t : ℕ) (e : Entry) (n : ℕ) (b d s : List ℕ) (r : Bool) → n ≡ e .sector → b ≡ e .bytes → s ≡ e .tag → length s ≡ t
+    → d ≡ digestBy q (le 8 n ++ b) → r ≡ same (part s 0 t) (part d 0 t) → r ≡ same (e .tag) (tagBy q t (e .sector) (e .bytes))
+entry-fits-is q t e n b d s r en eb es size ed er =
     let whole : take t s ≡ s = take-all t s (omega arith) in
     rw (er, ed, en, eb, whole, es)
 

@@ -21,9 +21,15 @@ use Rattle.on_disk.specs.Section.{emptySection}
 use Rattle.octets.specs.Lists.{allBelow, firstBelow}
 use Rattle.model.specs.Journal.{greatestId, replay}
 use Rattle.model.specs.Store.{stepsOf}
-use Rattle.model.specs.Tag.{Tags, tagOf}
+use Rattle.model.specs.Tag.{Tags}
+use Rattle.model.specs.Keyed.{openKeyedWith, openKeyedOf}
+use Rattle.model.proofs.Keyed.{keyed-calls}
+use Rattle.hmac.specs.Hmac.{keyOk}
+use Rattle.sound.specs.declared.tag.Rule.{Rule}
+use Rattle.sound.specs.Rule.{tagBy, keyedOf}
+use Rattle.sound.proofs.Rules.{keyed-tags}
 use Rattle.model.specs.Refusal.{refusalOf}
-use Rattle.model.specs.State.{Verdict, passed, lastId, stagingOk}
+use Rattle.model.specs.State.{Verdict, passed, lastId, volumeLoanOk, stagingOk}
 use Rattle.model.specs.Open.{misplaced, superblockRows, entriesVerdict, phaseFor, OpenResult, openBy, openWith, openOf}
 use Rattle.model.specs.Query.{queryOf}
 use Rattle.journal.proofs.Scans.{some-below, none-below}
@@ -113,7 +119,22 @@ module _ (r : ℕ) (v : List ℕ) (a : Answer ℕ (Layout × ℕ)) (is : a ≡ q
         ∙ ap (λ (x : Layout). firstMet (superblockRows x r v) passed) (sym same-layout) ∙ held-passes decoded r v a is h n e,
   )
 
-  pub held-opens : (st : List ℕ) (o : OpenResult) → o ≡ openWith tagOf h (h .reserved) v st → o ≡ openOf tagOf r v st
-  held-opens st o q =
-      q ∙ ap (λ (k : ℕ). openWith tagOf h k v st) behind-reserved
-      ∙ ap (λ (x : Layout). openWith tagOf x r v st) (sym same-layout)
+  pub held-opens : (tags : Tags) (st : List ℕ) (o : OpenResult) → o ≡ openWith tags h (h .reserved) v st → o ≡ openOf tags r v st
+  held-opens tags st o q =
+      q ∙ ap (λ (k : ℕ). openWith tags h k v st) behind-reserved
+      ∙ ap (λ (x : Layout). openWith tags x r v st) (sym same-layout)
+
+-- ---- with a key
+
+module _ (key : List ℕ) (r : ℕ) (v st : List ℕ) where
+  pub keyed-malformed : volumeLoanOk v ≡ false → record { answer = refuse 1 []; staging = st } ≡ openKeyedOf key r v st
+  unfolding openKeyedWith
+  keyed-malformed e = rw e
+
+  pub key-refused : volumeLoanOk v ≡ true → keyOk key ≡ false → record { answer = refuse 2 []; staging = st } ≡ openKeyedOf key r v st
+  unfolding openKeyedWith
+  key-refused ok e = rw (ok, e)
+
+  pub key-taken : (o : OpenResult) → keyOk key ≡ true → (q : Rule) → q ≡ keyedOf key → o ≡ openOf (tagBy q) r v st → o ≡ openKeyedOf key r v st
+  key-taken o ok q eq e =
+      e ∙ ap (λ (x : Rule). openOf (tagBy x) r v st) eq ∙ ap (λ (tags : Tags). openOf tags r v st) (keyed-tags key) ∙ sym (keyed-calls .taken key ok .opening r v st)

@@ -4,7 +4,7 @@ use borrow.Author.Needs.{needs}
 use borrow.Author.Tests.{not-true, not-false}
 use Rattle.layout.proofs.Sizes.{width-high}
 use Rattle.on_disk.specs.Section.{entryOf}
-use Rattle.model.specs.Tag.{tagOf}
+use Rattle.sound.specs.Rule.{tagBy}
 use Rattle.volume_open.proofs.Checks.{entry-unused, entry-out-of-range, entry-mismatch, entry-fits, entry-fits-is}
 use Rattle.volume_open.proofs.open.check_entry.Statement.{statement}
 use Rattle.volume_open.proofs.open.check_entry.Tie as tie
@@ -15,12 +15,12 @@ entry-sector-requires c κs = (width-high (c .before .args .g) (c .before .pre .
 returns : tie.Need-returns
 returns c =
     let a = c .before .before .before .args in
-    entry-unused (tagOf (a .g .width)) (a .g) (a .k) (a .i) (entryOf (a .g .width) (a .section .now) (a .i)) (sym (c .before .entry-sector .ensures) ∙ c .if1 .taken)
+    entry-unused (tagBy (a .rule) (a .g .width)) (a .g) (a .k) (a .i) (entryOf (a .g .width) (a .section .now) (a .i)) (sym (c .before .entry-sector .ensures) ∙ c .if1 .taken)
 
 returns-2 : tie.Need-returns-2
 returns-2 c =
     let a = c .before .before .before .before .args in
-    entry-out-of-range (tagOf (a .g .width)) (a .g) (a .k) (a .i) (entryOf (a .g .width) (a .section .now) (a .i))
+    entry-out-of-range (tagBy (a .rule) (a .g .width)) (a .g) (a .k) (a .i) (entryOf (a .g .width) (a .section .now) (a .i))
     (λ q. c .before .if1 .left (c .before .before .entry-sector .ensures ∙ q)) (omega (arith, c .before .before .entry-sector .ensures, c .if2 .taken))
 
 entry-data-requires : tie.Need-entry-data-requires
@@ -38,18 +38,18 @@ returns-3 : tie.Need-returns-3
 returns-3 c =
     let a = c .before .before .before .before .before .before .before .before .before .before .before .before .before .args in
     let e = entryOf (a .g .width) (a .section .now) (a .i) in
-    let fits = entry-fits-is (a .g .width) e (c .before .before .before .before .before .before .before .before .before .before .before .entry-sector .result) (c .before .before .before .before .before .before .before .entry-data .last .1 .1 .1 .0) (c .before .before .before .before .tag .result) (c .before .before .before .entry-tag .result .now) (c .before .same-at .result)
+    let fits = entry-fits-is (a .rule) (a .g .width) e (c .before .before .before .before .before .before .before .before .before .before .before .entry-sector .result) (c .before .before .before .before .before .before .before .entry-data .last .1 .1 .1 .0) (c .before .before .before .before .tag .result) (c .before .before .before .entry-tag .result .now) (c .before .same-at .result)
     (c .before .before .before .before .before .before .before .before .before .before .before .entry-sector .ensures) (c .before .before .before .before .before .before .before .entry-data .ensures) (c .before .before .before .entry-tag .ensures .0) (c .before .before .before .entry-tag .ensures .1) (c .before .before .before .before .tag .ensures .0) (c .before .same-at .ensures) in
-    entry-mismatch (tagOf (a .g .width)) (a .g) (a .k) (a .i) e
+    entry-mismatch (tagBy (a .rule) (a .g .width)) (a .g) (a .k) (a .i) e
     (λ q. c .before .before .before .before .before .before .before .before .before .before .if1 .left (c .before .before .before .before .before .before .before .before .before .before .before .entry-sector .ensures ∙ q)) (omega (arith, c .before .before .before .before .before .before .before .before .before .before .before .entry-sector .ensures, c .before .before .before .before .before .before .before .before .before .if2 .left)) (sym fits ∙ not-true _ (c .if3 .taken))
 
 returns-4 : tie.Need-returns-4
 returns-4 c =
     let a = c .before .before .before .before .before .before .before .before .before .before .before .before .before .args in
     let e = entryOf (a .g .width) (a .section .now) (a .i) in
-    let fits = entry-fits-is (a .g .width) e (c .before .before .before .before .before .before .before .before .before .before .before .entry-sector .result) (c .before .before .before .before .before .before .before .entry-data .last .1 .1 .1 .0) (c .before .before .before .before .tag .result) (c .before .before .before .entry-tag .result .now) (c .before .same-at .result)
+    let fits = entry-fits-is (a .rule) (a .g .width) e (c .before .before .before .before .before .before .before .before .before .before .before .entry-sector .result) (c .before .before .before .before .before .before .before .entry-data .last .1 .1 .1 .0) (c .before .before .before .before .tag .result) (c .before .before .before .entry-tag .result .now) (c .before .same-at .result)
     (c .before .before .before .before .before .before .before .before .before .before .before .entry-sector .ensures) (c .before .before .before .before .before .before .before .entry-data .ensures) (c .before .before .before .entry-tag .ensures .0) (c .before .before .before .entry-tag .ensures .1) (c .before .before .before .before .tag .ensures .0) (c .before .same-at .ensures) in
-    entry-fits (tagOf (a .g .width)) (a .g) (a .k) (a .i) e
+    entry-fits (tagBy (a .rule) (a .g .width)) (a .g) (a .k) (a .i) e
     (λ q. c .before .before .before .before .before .before .before .before .before .before .if1 .left (c .before .before .before .before .before .before .before .before .before .before .before .entry-sector .ensures ∙ q)) (omega (arith, c .before .before .before .before .before .before .before .before .before .before .before .entry-sector .ensures, c .before .before .before .before .before .before .before .before .before .if2 .left)) (sym fits ∙ not-false _ (c .if3 .left))
 
 pub check-entry-spec : {M : Type 1} → statement M
