@@ -1,10 +1,10 @@
 -- The digest behind one block: from its hash value alone it goes on as from the block itself.
-use Prim.Native.Nat.{ℕ, _+_, _-_, _*_, _/_, _≤_}
+use Prim.Native.Nat.{ℕ, _+_, _≤_}
 use mathlib.Core.Path.{_≡_, refl, sym, ap, _∙_}
 use mathlib.Core.List.{List, [], _++_, map}
 use native.Mathlib.Omega.{arith}
 use lib.Bits.{bitXor}
-use lib.ListN.{length, drop, replicate, length-append, drop-of-length-le}
+use lib.ListN.{length, drop, length-append, drop-of-length-le}
 use borrow.Author.Tests.{le-ltb}
 use Rattle.octets.specs.Answer.{taken}
 use Rattle.digest.specs.declared.State.{State}
@@ -12,7 +12,7 @@ use Rattle.digest.specs.declared.Updated.{Updated}
 use Rattle.digest.specs.declared.Closed.{Closed}
 use Rattle.digest.specs.Pieces.{limit, freshOf, filledOf, absorbOf, UpdateOutcome, updated, updateOf, DigestOutcome, closed, closeOf, finishOf}
 use Rattle.digest.specs.Sha256.{sha256}
-use Rattle.digest.specs.Sha256.Promise.{update-taken, count-absorb, update-append, close-behind, length-close}
+use Rattle.digest.specs.Sha256.Promise.{update-taken, count-absorb, update-append, close-behind}
 use Rattle.hmac.specs.declared.Key.{Key}
 use Rattle.hmac.specs.Hmac.{blockSize, ipad, opad, blockOf}
 use Rattle.hmac.specs.Kept.{hashBehind, keyOf, resumed, macOf}

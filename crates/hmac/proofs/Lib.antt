@@ -2,3 +2,5 @@
 pub mod Theorems
 mod Blocks
 mod Behind
+mod Calls
+pub mod Clients

@@ -1,18 +1,19 @@
 // HMAC with SHA-256: RFC 2104, R104.
 //
-// What each call returns is defined in specs/Call.antt and specs/Kept.antt; `hmac` itself is in specs/Hmac.antt. Of the digest this crate uses the
-// promise alone.
+// What each call returns is defined in specs/Call.antt and specs/Kept.antt; `hmac` itself is in specs/Hmac.antt. Of `sha256` this crate uses the
+// digest's promise alone.
 ghost use mathlib.Core.Path.{_≡_};
 ghost use mathlib.Core.List.{_++_, map};
 ghost use Prim.Native.Nat.{_+_, _≤_};
 ghost use lib.Bits.{bitXor};
-ghost use lib.ListN.{length};
+ghost use lib.ListN.{length, replicate};
 ghost use Rattle.octets.specs.Answer.{numberIn};
 ghost use Rattle.digest.specs.Pieces.{limit, absorbOf, closeOf};
+ghost use Rattle.digest.specs.Sha256.{digestSize};
 ghost use Rattle.hmac.specs.Answer.{answerOf};
-ghost use Rattle.hmac.specs.Hmac.{blockSize, blockOf, keyOk};
+ghost use Rattle.hmac.specs.Hmac.{blockOf, keyOk};
 ghost use Rattle.hmac.specs.Kept.{hashBehind, keyOf, resumed, macOf};
-ghost use Rattle.hmac.specs.Call.{messageLimit};
+ghost use Rattle.hmac.specs.Call.{messageLimit, called, macCallOf};
 
 // The longest key that a call takes, in bytes.
 pub const MOST_KEY: usize = 256;
@@ -24,6 +25,9 @@ const BLOCK_SIZE: usize = 64;
 const IPAD: u8 = 0x36;
 
 const OPAD: u8 = 0x5c;
+
+// The most bytes that a message may have: the digest's limit less the padded block.
+const MESSAGE_LIMIT: u64 = 2305843009213693887;
 
 // What is kept of a key: the hash values behind the two padded blocks. Any value of it may be handed in.
 pub struct Key {
@@ -152,4 +156,31 @@ pub fn mac_of_two(key: Key, first: &[u8], second: &[u8]) -> [u8; 32]
     let closed = digest::finish(t);
     let bytes = closed.digest;
     outer_digest(outer, bytes)
+}
+
+// The refusal of a call.
+fn refuse(a: Answer) -> Mac
+    ensures { λ r. ⌜ r ≡ record { answer = a; mac = replicate digestSize 0 } ⌝ }
+{
+    Mac {
+        answer: a,
+        mac: [0u8; 32],
+    }
+}
+
+// The mac of a message that is lent whole. Refused where the key has no or more than 256 bytes, or the message is past the limit.
+pub fn hmac(key: &[u8], message: &[u8]) -> Mac
+    ensures { λ r. ⌜ called r ≡ macCallOf (now (key .entry)) (now (message .entry)) ⌝ }
+{
+    if !key_ok(key) {
+        return refuse(Answer::KeyLength);
+    }
+    if MESSAGE_LIMIT < message.len() as u64 {
+        return refuse(Answer::TooLong);
+    }
+    let mac = mac_of_two(keep(key), message, &[]);
+    Mac {
+        answer: Answer::Taken,
+        mac: mac,
+    }
 }

@@ -12,7 +12,7 @@ copy-at-requires c κs =
     (omega arith, rw size (omega arith))
 
 returns : tie.Need-returns
-returns c = long-key (c .before .before .before .before .before .before .before .before .args .key .now) (c .before .copy-at .last .0) (c .before .before .before .before .before .sha256 .result) (c .before .before .before .before .before .before .if1 .taken) (c .before .before .before .before .before .before .before .before .pre) (c .before .before .before .before .before .sha256 .ensures) (c .before .copy-at .ensures)
+returns c = long-key (c .before .before .before .before .before .before .before .before .args .key .now) (c .before .copy-at .last .0) (c .before .before .before .before .before .sha256 .result) (omega arith) (c .before .before .before .before .before .before .before .before .pre) (c .before .before .before .before .before .sha256 .ensures) (c .before .copy-at .ensures)
 
 returns-2 : tie.Need-returns-2
 returns-2 c = short-key (c .before .before .before .before .before .args .key .now) (c .before .copy-at2 .last .0) (omega arith) (c .before .copy-at2 .ensures)
