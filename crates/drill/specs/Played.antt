@@ -1,31 +1,35 @@
 -- What a drill hands back and leaves in its two loans. The world of the model has the volume and, while a state is live, its staging; demand 3 (R5)
 -- speaks of that world. The staging loan has bytes also while nothing is live.
 --
--- setting r               : the tags of R14, and r reserved sectors
+-- tagsFor key             : the tags of a key; those of R14 where the key is empty, which here stands for calls without one
+-- setting key r           : those tags, and r reserved sectors
 -- liveOf x st             : what is live, with the staging loan st
 -- worldOf m v st          : the world with the volume v
 -- loanFor e st             : the staging loan st as the call of e finds it: an open fills the first bytes, those that it is lent
 -- stagingIn x st          : the staging loan after an event that found it as st and left x live
--- stagingNext r v x st e  : the staging loan st after the event e, on the volume v with x live
--- stagingAfter r w st es  : the same after the events es, from the world w
+-- stagingNext key r v x st e : the staging loan st after the event e, on the volume v with x live
+-- stagingAfter key r w st es : the same after the events es, from the world w
 -- Turn ..                 : the event e, on the volume v with x live and the staging loan st, led to m, and left v′ and st′ in the loans
 -- Ran ..                  : the events es, with nothing live at first, did so
--- played ..               : the events of a drill
--- Plays ..                : the drill of a script on the volume v with the staging loan st handed back p, and left v′ and st′ in the loans
+-- played ..               : the events of a drill, on a volume of which format left o
+-- Plays ..                : the drill of a script, on a volume of which format left o with the staging loan st, handed back p, and left v′ and st′ in the loans
 use Prim.Native.Nat.{ℕ}
 use mathlib.Core.Bool.{true}
 use mathlib.Core.List.{List, [], _∷_}
 use mathlib.Core.Path.{_≡_}
 use lib.ListN.{length}
+use lib.Dec.{eqb}
 use Rattle.octets.specs.Answer.{isTaken}
 use Rattle.octets.specs.Choice.{pick}
 use Rattle.octets.specs.Parts.{patch}
-use Rattle.model.specs.Tag.{tagOf}
+use Rattle.model.specs.Tag.{Tags, tagOf, hmacTagOf}
 use Rattle.model.specs.Refusal.{formatAnswer}
-use Rattle.model.specs.Format.{formatOf}
+use Rattle.model.specs.Format.{FormatResult}
+use Rattle.model.specs.JournalStep.{commitSteps}
+use Rattle.model.specs.Ledger.{ledgerOf}
 use Rattle.model.specs.Medium.{mediumOf, volumeIn}
-use Rattle.model.specs.World.{Event, aCut, anOpen, aWrite, aFlush, aStep, aNextStore, aRead, Setting, Live, off, on, World, begin, happens, next, after}
-use Rattle.model.specs.Demand3.{Agrees, ledgerAfter}
+use Rattle.model.specs.World.{Event, aCut, anOpen, aWrite, aFlush, aStep, aNextStore, aRead, aKeyedOpen, aKeyedWrite, aKeyedRead, Setting, Live, off, on, World, begin, happens, next, after, transcript}
+use Rattle.model.specs.Demand3.{Agrees}
 use Rattle.on_disk.specs.declared.Layout.{Layout}
 use Rattle.drill.specs.declared.Live as code
 use Rattle.drill.specs.declared.Live.the-variants.{Off, On}
@@ -33,8 +37,11 @@ use Rattle.drill.specs.declared.Moment.{Moment}
 use Rattle.drill.specs.declared.Played.{Played}
 use Rattle.drill.specs.Script.{eventsOf}
 
-abbrev pub setting : ℕ → Setting
-setting r = record { tags = tagOf; reserved = r }
+abbrev pub tagsFor : List ℕ → Tags
+tagsFor key = pick (eqb (length key) 0) tagOf (hmacTagOf key)
+
+abbrev pub setting : List ℕ → ℕ → Setting
+setting key r = record { tags = tagsFor key; reserved = r }
 
 abbrev pub liveOf : code.Live → List ℕ → Live
 liveOf Off st = off
@@ -53,38 +60,44 @@ loanFor aFlush st = st
 loanFor aStep st = st
 loanFor (aNextStore b) st = st
 loanFor (aRead n loan) st = st
+loanFor (aKeyedOpen key staging z) st = patch st 0 staging
+loanFor (aKeyedWrite key n b z) st = st
+loanFor (aKeyedRead key n loan z) st = st
 
 -- the staging of a live state is the whole loan; a refused open and a cut leave the bytes as they are
 abbrev pub stagingIn : Live → List ℕ → List ℕ
 stagingIn off st = st
 stagingIn (on s staging) st = staging
 
-abbrev pub stagingNext : ℕ → List ℕ → Live → List ℕ → Event → List ℕ
-stagingNext r v x st e = stagingIn (happens (setting r) (mediumOf v) x e .world .live) (loanFor e st)
+module _ (key : List ℕ) (r : ℕ) where
+  abbrev pub stagingNext : List ℕ → Live → List ℕ → Event → List ℕ
+  stagingNext v x st e = stagingIn (happens (setting key r) (mediumOf v) x e .world .live) (loanFor e st)
 
-unfoldable pub stagingAfter : ℕ → World → List ℕ → List Event → List ℕ
-stagingAfter r w st [] = st
-stagingAfter r w st (e ∷ es) = stagingAfter r (next (setting r) w e) (stagingNext r (volumeIn (w .medium)) (w .live) st e) es
+  unfoldable pub stagingAfter : World → List ℕ → List Event → List ℕ
+  stagingAfter w st [] = st
+  stagingAfter w st (e ∷ es) = stagingAfter (next (setting key r) w e) (stagingNext (volumeIn (w .medium)) (w .live) st e) es
 
--- ---- an event, and a list of them
+  -- ---- an event, and a list of them
 
-pub record Turn (r : ℕ) (v : List ℕ) (x : Live) (st : List ℕ) (e : Event) (m : Moment) (v′ st′ : List ℕ) : Type 0 where
-  pub world : worldOf m v′ st′ ≡ happens (setting r) (mediumOf v) x e .world
-  pub staging : st′ ≡ stagingNext r v x st e
+  pub record Turn (v : List ℕ) (x : Live) (st : List ℕ) (e : Event) (m : Moment) (v′ st′ : List ℕ) : Type 0 where
+    pub world : worldOf m v′ st′ ≡ happens (setting key r) (mediumOf v) x e .world
+    pub staging : st′ ≡ stagingNext v x st e
 
-pub record Ran (r : ℕ) (v st : List ℕ) (es : List Event) (m : Moment) (v′ st′ : List ℕ) : Type 0 where
-  pub world : worldOf m v′ st′ ≡ after (setting r) (begin v) es
-  pub staging : st′ ≡ stagingAfter r (begin v) st es
+  pub record Ran (v st : List ℕ) (es : List Event) (m : Moment) (v′ st′ : List ℕ) : Type 0 where
+    pub world : worldOf m v′ st′ ≡ after (setting key r) (begin v) es
+    pub staging : st′ ≡ stagingAfter (begin v) st es
 
 -- ---- a whole drill
 
-module _ (g : Layout) (script v st : List ℕ) where
+module _ (key : List ℕ) (g : Layout) (o : FormatResult) (script st : List ℕ) where
   -- none where format is refused
   abbrev pub played : List Event
-  played = pick (isTaken (formatOf tagOf g v .answer)) (eventsOf (length st) script) []
+  played = pick (isTaken (o .answer)) (eventsOf (length st) script) []
 
   pub record Plays (p : Played) (v′ st′ : List ℕ) : Type 0 where
-    pub format : formatAnswer (p .format) ≡ formatOf tagOf g v .answer
-    pub events : Ran (g .reserved) (formatOf tagOf g v .volume) st played (p .last) v′ st′
+    pub format : formatAnswer (p .format) ≡ o .answer
+    pub events : Ran key (g .reserved) (o .volume) st played (p .last) v′ st′
     -- R5: demand 3, of what ran
-    pub agrees : p .last .settled ≡ true → Agrees tagOf g (formatOf tagOf g v .volume) (worldOf (p .last) v′ st′) (ledgerAfter tagOf g v played)
+    pub agrees : p .last .settled ≡ true
+        → Agrees (tagsFor key) g (o .volume) (worldOf (p .last) v′ st′)
+        (ledgerOf (commitSteps g) (transcript (setting key (g .reserved)) (begin (o .volume)) played))
