@@ -35,9 +35,7 @@ length-shortened k = side (decLe (length k) blockSize)
 
 pub length-block : (k : List ℕ) → length (blockOf k) ≡ blockSize
 unfolding blockOf
-length-block k =
-    let zeros : length (replicate {A = ℕ} (blockSize - length (shortened k)) 0) ≡ blockSize - length (shortened k) = length-replicate (blockSize - length (shortened k)) 0 in
-    rw (length-append, zeros) (omega (arith, length-shortened k))
+length-block k = rw (length-append, length-replicate) (omega (arith, length-shortened k))
 
 pub length-padded : (x : ℕ) (k : List ℕ) → length (padded x k) ≡ blockSize
 length-padded x k = length-map (blockOf k) (λ b. bitXor b x) ∙ length-block k
