@@ -11,7 +11,7 @@
 -- stagingAfter key r w st es : the same after the events es, from the world w
 -- Turn ..                 : the event e, on the volume v with x live and the staging loan st, led to m, and left v′ and st′ in the loans
 -- Ran ..                  : the events es, with nothing live at first, did so
--- played ..               : the events of a drill, on a volume of which format left o
+-- playedBy y script st    : the events of a drill where format answered y
 -- Plays ..                : the drill of a script, on a volume of which format left o with the staging loan st, handed back p, and left v′ and st′ in the loans
 use Prim.Native.Nat.{ℕ}
 use mathlib.Core.Bool.{true}
@@ -23,6 +23,7 @@ use Rattle.octets.specs.Answer.{isTaken}
 use Rattle.octets.specs.Choice.{pick}
 use Rattle.octets.specs.Parts.{patch}
 use Rattle.model.specs.Tag.{Tags, tagOf, hmacTagOf}
+use Rattle.model.specs.State.{Verdict}
 use Rattle.model.specs.Refusal.{formatAnswer}
 use Rattle.model.specs.Format.{FormatResult}
 use Rattle.model.specs.JournalStep.{commitSteps}
@@ -89,10 +90,13 @@ module _ (key : List ℕ) (r : ℕ) where
 
 -- ---- a whole drill
 
+-- none where format is refused
+abbrev pub playedBy : Verdict → List ℕ → List ℕ → List Event
+playedBy y script st = pick (isTaken y) (eventsOf (length st) script) []
+
 module _ (key : List ℕ) (g : Layout) (o : FormatResult) (script st : List ℕ) where
-  -- none where format is refused
   abbrev pub played : List Event
-  played = pick (isTaken (o .answer)) (eventsOf (length st) script) []
+  played = playedBy (o .answer) script st
 
   pub record Plays (p : Played) (v′ st′ : List ℕ) : Type 0 where
     pub format : formatAnswer (p .format) ≡ o .answer

@@ -15,7 +15,6 @@ ghost use mathlib.Core.List.{List, []};
 ghost use mathlib.Core.Path.{_≡_};
 ghost use lib.ListN.{length, take, replicate};
 ghost use Rattle.octets.specs.Answer.{isTaken};
-ghost use Rattle.octets.specs.Choice.{pick};
 ghost use Rattle.octets.specs.Parts.{patch};
 ghost use Rattle.hmac.specs.Hmac.{mostKey};
 ghost use Rattle.model.specs.Open.{openOf};
@@ -28,7 +27,7 @@ ghost use Rattle.model.specs.World.{off, on};
 ghost use Rattle.model.specs.World as lists;
 ghost use Rattle.model.specs.Write.{writeOf};
 ghost use Rattle.drill.specs.Script.{shortSize, eventOf, eventsOf};
-ghost use Rattle.drill.specs.Played.{tagsFor, setting, liveOf, worldOf, Turn, Ran, Plays};
+ghost use Rattle.drill.specs.Played.{tagsFor, setting, liveOf, worldOf, Turn, Ran, playedBy, Plays};
 
 // The kinds of event; any other is a read. A short one is made with a loan of a wrong length, one with a long key with a key that no call takes.
 pub const CUT: u8 = 0;
@@ -92,7 +91,8 @@ pub fn play(g: Layout, script: &[u8], v: &mut [u8], st: &mut [u8]) -> Played
 
 // The same with every call under a key.
 pub fn play_keyed(g: Layout, key: &[u8], script: &[u8], v: &mut [u8], st: &mut [u8]) -> Played
-    ensures { λ p. ⌜ Plays (now (key .entry)) g (formatKeyedOf (now (key .entry)) g (now (v .entry))) (now (script .entry)) (now (st .entry)) p (now (v .exit)) (now (st .exit)) ⌝ }
+    ensures { λ p. ⌜ Plays (now (key .entry)) g (formatKeyedOf (now (key .entry)) g (now (v .entry)))
+        (now (script .entry)) (now (st .entry)) p (now (v .exit)) (now (st .exit)) ⌝ }
 {
     let answer = volume::format::format_keyed(v, g, key);
     play_on(answer, g.reserved, key, script, v, st)
@@ -107,8 +107,9 @@ fn play_on(
     v: &mut [u8],
     st: &mut [u8],
 ) -> Played
-    requires { ⌜ isTaken (formatAnswer answer) ≡ true → length (now key) ≤ mostKey ⌝ }
-    ensures { λ p. ⌜ (p .format ≡ answer) × Ran (now (key .entry)) r (now (v .entry)) (now (st .entry)) (pick (isTaken (formatAnswer answer)) (eventsOf (length (now (st .entry))) (now (script .entry))) []) (p .last) (now (v .exit)) (now (st .exit)) ⌝ }
+    requires { ⌜ (isTaken (formatAnswer answer) ≡ true → length (now key) ≤ mostKey) ⌝ }
+    ensures { λ p. ⌜ (p .format ≡ answer)
+        × Ran (now (key .entry)) r (now (v .entry)) (now (st .entry)) (playedBy (formatAnswer answer) (now (script .entry)) (now (st .entry))) (p .last) (now (v .exit)) (now (st .exit)) ⌝ }
 {
     match answer {
         FormatAnswer::Formatted => {}
@@ -166,7 +167,8 @@ fn event(
     fill: u8,
 ) -> Moment
     requires { ⌜ length (now key) ≤ mostKey ⌝ }
-    ensures { λ m. ⌜ Turn (now (key .entry)) r (now (v .entry)) (liveOf live (now (st .entry))) (now (st .entry)) (eventOf (length (now (st .entry))) kind sector fill) m (now (v .exit)) (now (st .exit)) ⌝ }
+    ensures { λ m. ⌜ Turn (now (key .entry)) r (now (v .entry)) (liveOf live (now (st .entry))) (now (st .entry))
+        (eventOf (length (now (st .entry))) kind sector fill) m (now (v .exit)) (now (st .exit)) ⌝ }
 {
     match live {
         Live::Off => event_off(r, key, v, st, kind, sector, fill),
@@ -260,7 +262,8 @@ fn event_on(
     fill: u8,
 ) -> Moment
     requires { ⌜ length (now key) ≤ mostKey ⌝ }
-    ensures { λ m. ⌜ Turn (now (key .entry)) r (now (v .entry)) (on s (now (st .entry))) (now (st .entry)) (eventOf (length (now (st .entry))) kind sector fill) m (now (v .exit)) (now (st .exit)) ⌝ }
+    ensures { λ m. ⌜ Turn (now (key .entry)) r (now (v .entry)) (on s (now (st .entry))) (now (st .entry))
+        (eventOf (length (now (st .entry))) kind sector fill) m (now (v .exit)) (now (st .exit)) ⌝ }
 {
     if kind == CUT {
         return at_rest(Live::Off);
@@ -292,7 +295,8 @@ fn event_on(
 
 fn write_event(key: &[u8], s: State, st: &mut [u8], sector: usize, bytes: &[u8]) -> Moment
     requires { ⌜ length (now key) ≤ mostKey ⌝ }
-    ensures { λ m. ⌜ ((v : List ℕ) → worldOf m v (now (st .exit)) ≡ lists.byWrite (mediumOf v) sector (now (bytes .entry)) (writeOf (tagsFor (now (key .entry))) s (now (st .entry)) sector (now (bytes .entry))) .world) ⌝ }
+    ensures { λ m. ⌜ ((v : List ℕ) → worldOf m v (now (st .exit))
+        ≡ lists.byWrite (mediumOf v) sector (now (bytes .entry)) (writeOf (tagsFor (now (key .entry))) s (now (st .entry)) sector (now (bytes .entry))) .world) ⌝ }
 {
     if key.len() != 0 {
         return keyed_write(key, s, st, sector, bytes);
@@ -304,7 +308,8 @@ fn write_event(key: &[u8], s: State, st: &mut [u8], sector: usize, bytes: &[u8])
 
 // A write with a key, whatever its length.
 fn keyed_write(key: &[u8], s: State, st: &mut [u8], sector: usize, bytes: &[u8]) -> Moment
-    ensures { λ m. ⌜ ((v : List ℕ) → worldOf m v (now (st .exit)) ≡ lists.byWrite (mediumOf v) sector (now (bytes .entry)) (writeKeyedOf (now (key .entry)) s (now (st .entry)) sector (now (bytes .entry))) .world) ⌝ }
+    ensures { λ m. ⌜ ((v : List ℕ) → worldOf m v (now (st .exit))
+        ≡ lists.byWrite (mediumOf v) sector (now (bytes .entry)) (writeKeyedOf (now (key .entry)) s (now (st .entry)) sector (now (bytes .entry))) .world) ⌝ }
 {
     let written = volume::write::write_keyed(s, st, sector, bytes, key);
     let next = written.state;

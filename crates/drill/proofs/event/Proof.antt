@@ -1,21 +1,15 @@
-use borrow.Author.Needs.{needs}
+use lib.ListN.{length}
 use Rattle.drill.specs.Script.{eventOf}
 use Rattle.drill.proofs.Turns.{when-off, when-on}
-use lib.ListN.{length}
+use borrow.Author.Needs.{needs}
 use Rattle.drill.proofs.event.Statement.{statement}
 use Rattle.drill.proofs.event.Tie as tie
 
--- src/lib.rt:119:1
 returns : tie.Need-returns
-returns c =
-    let a = c .before .before .before .before .before .before .before .before .before .args in
-    when-off (a .r) (a .v .now) (a .st .now) (eventOf (length (a .st .now)) (a .kind) (a .sector) (a .fill)) (a .live) _ _ _ (c .before .before .before .before .before .enum-told .given .1) (c .before .before .event-off .ensures)
+returns c = when-off (c .before .before .before .before .before .before .before .before .before .before .args .key .now) (c .before .before .before .before .before .before .before .before .before .before .args .r) (c .before .before .before .before .before .before .before .before .before .before .args .v .now) (c .before .before .before .before .before .before .before .before .before .before .args .st .now) (eventOf (length (c .before .before .before .before .before .before .before .before .before .before .args .st .now)) (c .before .before .before .before .before .before .before .before .before .before .args .kind) (c .before .before .before .before .before .before .before .before .before .before .args .sector) (c .before .before .before .before .before .before .before .before .before .before .args .fill)) (c .before .before .before .before .before .before .before .before .before .before .args .live) _ _ _ (c .before .before .before .before .before .enum-told .given .1) (c .before .before .event-off .ensures)
 
--- src/lib.rt:119:1
 returns-2 : tie.Need-returns-2
-returns-2 c =
-    let a = c .before .before .before .before .before .before .before .before .before .before .before .before .args in
-    when-on (a .r) (a .v .now) (a .st .now) (eventOf (length (a .st .now)) (a .kind) (a .sector) (a .fill)) (a .live) _ _ _ _ (c .before .before .before .before .before .before .before .before .live .given .1) (c .before .before .before .before .event-on .ensures)
+returns-2 c = when-on (c .before .before .before .before .before .before .before .before .before .before .before .before .before .args .key .now) (c .before .before .before .before .before .before .before .before .before .before .before .before .before .args .r) (c .before .before .before .before .before .before .before .before .before .before .before .before .before .args .v .now) (c .before .before .before .before .before .before .before .before .before .before .before .before .before .args .st .now) (eventOf (length (c .before .before .before .before .before .before .before .before .before .before .before .before .before .args .st .now)) (c .before .before .before .before .before .before .before .before .before .before .before .before .before .args .kind) (c .before .before .before .before .before .before .before .before .before .before .before .before .before .args .sector) (c .before .before .before .before .before .before .before .before .before .before .before .before .before .args .fill)) (c .before .before .before .before .before .before .before .before .before .before .before .before .before .args .live) _ _ _ _ (c .before .before .before .before .before .before .before .before .live .given .1) (c .before .before .before .before .event-on .ensures)
 
 pub event-spec : {M : Type 1} → statement M
 event-spec =

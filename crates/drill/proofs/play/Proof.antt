@@ -1,19 +1,10 @@
+use Rattle.drill.proofs.Worlds.{plays-plain}
 use borrow.Author.Needs.{needs}
-use Rattle.drill.proofs.Worlds.{not-played, all-played}
 use Rattle.drill.proofs.play.Statement.{statement}
 use Rattle.drill.proofs.play.Tie as tie
 
--- src/lib.rt:78:13
 returns : tie.Need-returns
-returns c =
-    let a = c .before .before .before .before .before .before .before .before .before .before .args in
-    not-played (a .g) (a .script .now) (a .v .now) (a .st .now) (c .before .before .before .before .before .format .result) _ (c .before .before .before .before .before .format .ensures) _ (c .at-rest .result) (c .before .enum-told2 .given .1) (c .at-rest .ensures)
-
--- src/lib.rt:71:1
-returns-2 : tie.Need-returns-2
-returns-2 c =
-    let a = c .before .before .before .before .before .before .before .before .before .before .before .before .before .before .before .before .args in
-    all-played (a .g) (a .script .now) (a .v .now) (a .st .now) (c .before .before .before .before .before .before .before .before .before .before .before .format .result) _ (c .before .before .before .before .before .before .before .before .before .before .before .format .ensures) (c .before .before .before .before .events .result) _ _ (c .before .before .before .before .before .before .before .enum-told .given .1) (c .before .before .before .before .events .ensures)
+returns c = plays-plain (c .before .before .before .before .before .before .before .before .before .before .before .before .before .before .before .args .g) (c .before .before .before .before .before .before .before .before .before .before .before .before .before .before .before .args .script .now) (c .before .before .before .before .before .before .before .before .before .before .before .before .before .before .before .args .v .now) (c .before .before .before .before .before .before .before .before .before .before .before .before .before .before .before .args .st .now) (c .before .before .before .before .before .before .before .before .before .before .format .result) _ (c .before .before .before .before .play-on .result) _ _ (c .before .before .before .before .before .before .before .before .before .before .format .ensures) (c .before .before .before .before .play-on .ensures .0) (c .before .before .before .before .play-on .ensures .1)
 
 pub play-spec : {M : Type 1} → statement M
 play-spec =
@@ -21,11 +12,7 @@ play-spec =
     (tie.spec
     (λ c κs. search needs)
     (λ c. search needs)
-    (λ c. search needs)
-    (λ c κs. search needs)
-    (λ c. search needs)
-    returns
     (λ c κs. search needs)
     (λ c. search needs)
     (λ c. search needs)
-    returns-2)
+    returns)
