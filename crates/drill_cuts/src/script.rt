@@ -1,10 +1,14 @@
 // The scripts, and what the ledger (R61 to R65) has after each.
 //
 // The first batch writes sectors 3 and 7, the second 7, 9 and 3, each with bytes of one value. A batch is entered by its 88th store, and its entries take
-// two stores each after that. Between those calls stand others that change nothing: reads, and calls with a loan of a wrong length.
+// two stores each after that. Between those calls stand others that change nothing: reads, and calls with a loan of a wrong
+// length or a key that no call takes.
 use drill::CUT;
 use drill::EVENT_SIZE;
 use drill::FLUSH;
+use drill::LONG_KEY_OPEN;
+use drill::LONG_KEY_READ;
+use drill::LONG_KEY_WRITE;
 use drill::OPEN;
 use drill::READ;
 use drill::SHORT_OPEN;
@@ -37,6 +41,7 @@ fn first_batch(script: &mut [u8], steps: usize) -> usize {
     let mut at = event(script, 0, OPEN, 0, 165);
     at = event(script, at, WRITE, 3, 1);
     at = event(script, at, SHORT_WRITE, 3, 6);
+    at = event(script, at, LONG_KEY_WRITE, 7, 6);
     at = event(script, at, WRITE, 7, 2);
     at = event(script, at, FLUSH, 0, 0);
     events(script, at, steps)
@@ -51,15 +56,17 @@ fn second_batch(script: &mut [u8], start: usize, stores: usize) -> usize {
     at = event(script, at, WRITE, 9, 4);
     at = event(script, at, READ, 9, 0);
     at = event(script, at, SHORT_READ, 9, 0);
+    at = event(script, at, LONG_KEY_READ, 9, 0);
     at = event(script, at, WRITE, 3, 5);
     at = event(script, at, FLUSH, 0, 0);
     events(script, at, stores - FIRST)
 }
 
-// A cut, an open that is refused, one whose staging has any bytes, and so many steps.
+// A cut, two opens that are refused, one whose staging has any bytes, and so many steps.
 fn recovery(script: &mut [u8], start: usize, steps: usize) -> usize {
     let mut at = event(script, start, CUT, 0, 0);
     at = event(script, at, SHORT_OPEN, 0, 91);
+    at = event(script, at, LONG_KEY_OPEN, 0, 92);
     at = event(script, at, OPEN, 0, 90);
     events(script, at, steps)
 }

@@ -40,33 +40,33 @@ pub(crate) fn unsettled(t: Tally) -> Tally {
 }
 
 // One more, after which it was: every sector is read.
-fn settled(t: Tally, s: State, v: &[u8], st: &[u8], stores: usize) -> Tally {
+fn settled(t: Tally, s: State, key: &[u8], v: &[u8], st: &[u8], stores: usize) -> Tally {
     Tally {
         drills: plus(t.drills, 1),
         settled: plus(t.settled, 1),
         read: plus(t.read, script::PROVIDED),
-        agree: plus(t.agree, agreeing(s, v, st, stores)),
+        agree: plus(t.agree, agreeing(s, key, v, st, stores)),
     }
 }
 
 // One more, and what it left.
-pub(crate) fn add(t: Tally, last: Moment, v: &[u8], st: &[u8], stores: usize) -> Tally {
+pub(crate) fn add(t: Tally, last: Moment, key: &[u8], v: &[u8], st: &[u8], stores: usize) -> Tally {
     if !last.settled {
         return unsettled(t);
     }
     let live = last.live;
     match live {
         Live::Off => unsettled(t),
-        Live::On(s) => settled(t, s, v, st, stores),
+        Live::On(s) => settled(t, s, key, v, st, stores),
     }
 }
 
 // How many sectors read as the ledger has them after so many stores.
-fn agreeing(s: State, v: &[u8], st: &[u8], stores: usize) -> usize {
+fn agreeing(s: State, key: &[u8], v: &[u8], st: &[u8], stores: usize) -> usize {
     let mut n = 0;
     let mut sector = 0;
     while sector < script::PROVIDED {
-        if reads(s, v, st, sector, script::expected(sector, stores)) {
+        if reads(s, key, v, st, sector, script::expected(sector, stores)) {
             n = plus(n, 1);
         }
         sector += 1;
@@ -75,9 +75,9 @@ fn agreeing(s: State, v: &[u8], st: &[u8], stores: usize) -> usize {
 }
 
 // Whether a read of the sector gives 512 bytes of that value.
-fn reads(s: State, v: &[u8], st: &[u8], sector: usize, value: u8) -> bool {
+fn reads(s: State, key: &[u8], v: &[u8], st: &[u8], sector: usize, value: u8) -> bool {
     let mut bytes = [0u8; SECTOR_SIZE];
-    let answer = volume::read::read(s, v, st, sector, &mut bytes);
+    let answer = read(s, key, v, st, sector, &mut bytes);
     let expected = [value; SECTOR_SIZE];
     let same = octets::same_at(&bytes, 0, &expected, 0, SECTOR_SIZE);
     match answer {
@@ -86,8 +86,19 @@ fn reads(s: State, v: &[u8], st: &[u8], sector: usize, value: u8) -> bool {
     }
 }
 
-// The end of a line.
-pub(crate) fn print(t: Tally) {
+fn read(s: State, key: &[u8], v: &[u8], st: &[u8], sector: usize, bytes: &mut [u8]) -> ReadAnswer {
+    if key.len() == 0 {
+        return volume::read::read(s, v, st, sector, bytes);
+    }
+    volume::read::read_keyed(s, v, st, sector, bytes, key)
+}
+
+// A line.
+pub(crate) fn print(t: Tally, key: &[u8], sections: usize) {
+    if key.len() != 0 {
+        io::write_all(STDOUT_FILENO, b"with a key, ");
+    }
+    number(b"sections ", sections);
     number(b": drills ", t.drills);
     number(b", done recovering ", t.settled);
     number(b", sectors read ", t.read);
@@ -95,7 +106,7 @@ pub(crate) fn print(t: Tally) {
     io::write_all(STDOUT_FILENO, b"\n");
 }
 
-pub(crate) fn number(text: &[u8], n: usize) {
+fn number(text: &[u8], n: usize) {
     io::write_all(STDOUT_FILENO, text);
     io::print_decimal(STDOUT_FILENO, n as u64);
 }

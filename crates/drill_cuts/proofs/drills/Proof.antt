@@ -1,15 +1,15 @@
-use borrow.Author.Needs.{needs}
 use Prim.Native.Nat.{_-_, _≤_}
 use lib.ListN.{length}
 use mathlib.Core.Path.{_≡_}
+use borrow.Author.Needs.{needs}
 use Rattle.drill_cuts.proofs.drills.Statement.{statement}
 use Rattle.drill_cuts.proofs.drills.Tie as tie
 
 abbrev Inv-loop : tie.InvT-loop
-Inv-loop v₀ st₀ script₀ sections all₀ stores₀ t8 v st script all stores = (stores ≤ 187) × (length v ≡ length v₀) × (length st ≡ length st₀) × (length script ≡ length script₀)
+Inv-loop key v₀ st₀ script₀ sections all₀ stores₀ v st script all stores = (stores ≤ 187) × (length v ≡ length v₀) × (length st ≡ length st₀) × (length script ≡ length script₀)
 
 abbrev μ-loop : tie.MeasureT-loop
-μ-loop v₀ st₀ script₀ sections all₀ stores₀ t8 v st script all stores = 187 - stores
+μ-loop key v₀ st₀ script₀ sections all₀ stores₀ v st script all stores = 187 - stores
 
 pub drills-spec : {M : Type 1} → statement M
 drills-spec =
@@ -23,8 +23,6 @@ drills-spec =
     (λ c. search needs)
     (λ c. search needs)
     (λ c. search needs)
-    (λ c. search needs)
-    (λ c κs. search needs)
     (λ c κs. search needs)
     (λ c. search needs)
     (λ c. search needs)

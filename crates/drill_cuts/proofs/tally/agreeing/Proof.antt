@@ -4,10 +4,10 @@ use Rattle.drill_cuts.proofs.tally.agreeing.Statement.{statement}
 use Rattle.drill_cuts.proofs.tally.agreeing.Tie as tie
 
 abbrev Inv-loop : tie.InvT-loop
-Inv-loop s v st stores n₀ sector₀ n sector = sector ≤ 16
+Inv-loop s key v st stores n₀ sector₀ n sector = sector ≤ 16
 
 abbrev μ-loop : tie.MeasureT-loop
-μ-loop s v st stores n₀ sector₀ n sector = 16 - sector
+μ-loop s key v st stores n₀ sector₀ n sector = 16 - sector
 
 pub agreeing-spec : {M : Type 1} → statement M
 agreeing-spec =
