@@ -1,2 +1,2 @@
--- What the proof of the function cites, and uses of the definition.
+-- What the proof of the function cites.
 mod Calls
