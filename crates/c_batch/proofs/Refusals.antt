@@ -1,4 +1,4 @@
--- A call that is refused leaves every buffer but the answer's as it was.
+-- A call that is refused leaves every buffer but the answer's as it was. The write with a key rests on write-by too.
 use Prim.Native.Nat.{ℕ}
 use mathlib.Core.Bool.{Bool, true, false}
 use mathlib.Core.List.{List}
@@ -18,7 +18,7 @@ use Rattle.c_volume_state.specs.VolumeState.{encodeOf, decodeOf}
 use Rattle.c_volume_state.proofs.VolumeStateBytes.{state-kept}
 use Rattle.c_batch.specs.Batch.{RefusedBatchKeeps, writeLeaves, flushLeaves, writeCall, flushCall}
 
-write-by : (tags : Tags) (d : State) (st : List ℕ) (i : ℕ) (b : List ℕ) (x : Verdict)
+pub write-by : (tags : Tags) (d : State) (st : List ℕ) (i : ℕ) (b : List ℕ) (x : Verdict)
     → Keeps (writeLeaves (writeBy tags d st i b x)) (record { state = encodeOf d; staging = st })
 write-by tags d st i b (taken y) h = absurd (h refl)
 write-by tags d st i b (refused r) h = refl

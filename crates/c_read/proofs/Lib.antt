@@ -1,3 +1,3 @@
--- The theorem is in Refusals; Calls is what the proof of the function cites.
+-- The theorem is in Refusals; Calls is what the proof of the function, and of the one with a key, cites.
 pub mod Refusals
-mod Calls
+pub mod Calls

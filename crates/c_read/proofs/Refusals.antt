@@ -1,4 +1,4 @@
--- A read that is refused leaves the sector's buffer as it was.
+-- A read that is refused leaves the sector's buffer as it was. The read with a key rests on read-by too.
 use Prim.Native.Nat.{ℕ}
 use mathlib.Core.List.{List}
 use mathlib.Core.Path.{refl}
@@ -13,7 +13,7 @@ use Rattle.c_numbers.proofs.Calls.{called-keeps}
 use Rattle.c_volume_state.specs.VolumeState.{decodeOf}
 use Rattle.c_read.specs.Reads.{RefusedReadKeeps, readLeaves, readCall}
 
-read-by : (tags : Tags) (d : State) (v st : List ℕ) (i : ℕ) (b : List ℕ) (x : Verdict) → Keeps (readLeaves (readBy tags d v st i b x)) b
+pub read-by : (tags : Tags) (d : State) (v st : List ℕ) (i : ℕ) (b : List ℕ) (x : Verdict) → Keeps (readLeaves (readBy tags d v st i b x)) b
 read-by tags d v st i b (taken y) h = absurd (h refl)
 read-by tags d v st i b (refused r) h = refl
 

@@ -1,3 +1,3 @@
--- The theorem is in Refusals; Calls is what the proofs of the functions cite.
+-- The theorem is in Refusals; Calls is what the proofs of the functions, and of those with a key, cite.
 pub mod Refusals
-mod Calls
+pub mod Calls

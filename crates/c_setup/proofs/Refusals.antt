@@ -1,4 +1,4 @@
--- A call that is refused leaves every buffer but the answer's as it was.
+-- A call that is refused leaves every buffer but the answer's as it was. The calls with a key rest on format-by and open-by too.
 use Prim.Native.Nat.{ℕ}
 use mathlib.Core.List.{List}
 use mathlib.Core.Path.{refl}
@@ -16,7 +16,7 @@ use Rattle.c_numbers.specs.Called.{Keeps}
 use Rattle.c_numbers.proofs.Calls.{called-keeps}
 use Rattle.c_setup.specs.Setup.{RefusedSetupKeeps, formatLeaves, queryLeaves, openLeaves, formatCall, queryCall, openCall}
 
-format-by : (tag : Tag) (g : Layout) (v : List ℕ) (x : Verdict) → Keeps (formatLeaves (formatBy tag g v x)) v
+pub format-by : (tag : Tag) (g : Layout) (v : List ℕ) (x : Verdict) → Keeps (formatLeaves (formatBy tag g v x)) v
 format-by tag g v (taken y) h = absurd (h refl)
 format-by tag g v (refused r) h = refl
 
@@ -24,7 +24,7 @@ query-by : (g : Layout) (l : List ℕ) (x : Verdict) → Keeps (queryLeaves (que
 query-by g l (taken y) h = absurd (h refl)
 query-by g l (refused r) h = refl
 
-open-by : (g : Layout) (v st s : List ℕ) (x : Verdict) → Keeps (openLeaves (openBy g v st x) s) (record { staging = st; state = s })
+pub open-by : (g : Layout) (v st s : List ℕ) (x : Verdict) → Keeps (openLeaves (openBy g v st x) s) (record { staging = st; state = s })
 open-by g v st s (taken y) h = absurd (h refl)
 open-by g v st s (refused r) h = refl
 

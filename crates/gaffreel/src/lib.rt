@@ -5,5 +5,7 @@
 // a refusal (R71). After a refusal every buffer is as it was, but for one that receives what the
 // refusal also returns; of several steps, those before the refused one stay made.
 pub mod hash_tree;
+pub mod hmac;
+pub mod keyed;
 pub mod sha256;
 pub mod volumes;

@@ -3,6 +3,9 @@ use mathlib.Core.Path.{sym, ap, _∙_}
 use Rattle.c_numbers.proofs.Calls.{called-wrong, called-bad, called-made}
 use Rattle.c_volume_state.proofs.VolumeStateBytes.{held-length}
 use Rattle.c_replies.proofs.Answers.{replied}
+use Rattle.model.specs.declared.State.{State}
+use Rattle.model.specs.Tag.{tagOf}
+use Rattle.model.specs.Read.{readOf}
 use Rattle.c_read.specs.Reads.{readCall}
 use Rattle.c_read.proofs.Calls.{read-left}
 use borrow.Author.Needs.{needs}
@@ -22,7 +25,7 @@ decode-requires c κs = held-length (c .before .before .before .before .before .
 
 returns-3 : tie.Need-returns-3
 unfolding readCall
-returns-3 c = called-made (c .before .before .before .before .before .before .before .before .before .before .before .before .before .before .before .before .before .before .before .args .answer .now) _ _ _ (c .before .before .before .before .before .before .before .before .before .before .before .before .before .answer-size .ensures) (c .before .before .before .before .before .before .before .before .before .before .before .before .if1 .left) (ap not (sym (c .before .before .before .before .before .before .before .before .before .before .before .encodes-state .ensures)) ∙ c .before .before .before .before .before .before .before .before .before .before .if2 .left) (read-left (c .before .before .before .before .before .before .before .before .before .before .before .before .before .before .before .before .before .before .before .args .state .now) (c .before .before .before .before .before .before .before .before .before .before .before .before .before .before .before .before .before .before .before .args .v .now) (c .before .before .before .before .before .before .before .before .before .before .before .before .before .before .before .before .before .before .before .args .staging .now) _ (c .before .before .before .before .before .before .before .before .before .before .before .before .before .before .before .before .before .before .before .args .bytes .now) (c .before .before .before .before .before .before .before .before .before .decode .ensures) (c .before .before .before .before .before .before .before .read .result) (c .before .before .before .before .before .before .before .read .ensures) (replied (c .before .before .before .before .read-reply .ensures) (c .before .before .put-reply .ensures)))
+returns-3 c = called-made (c .before .before .before .before .before .before .before .before .before .before .before .before .before .before .before .before .before .before .before .args .answer .now) _ _ _ (c .before .before .before .before .before .before .before .before .before .before .before .before .before .answer-size .ensures) (c .before .before .before .before .before .before .before .before .before .before .before .before .if1 .left) (ap not (sym (c .before .before .before .before .before .before .before .before .before .before .before .encodes-state .ensures)) ∙ c .before .before .before .before .before .before .before .before .before .before .if2 .left) (read-left (c .before .before .before .before .before .before .before .before .before .before .before .before .before .before .before .before .before .before .before .args .state .now) (c .before .before .before .before .before .before .before .before .before .decode .ensures) (λ (x : State). readOf tagOf x (c .before .before .before .before .before .before .before .before .before .before .before .before .before .before .before .before .before .before .before .args .v .now) (c .before .before .before .before .before .before .before .before .before .before .before .before .before .before .before .before .before .before .before .args .staging .now) (c .before .before .before .before .before .before .before .before .before .before .before .before .before .before .before .before .before .before .before .args .sector) (c .before .before .before .before .before .before .before .before .before .before .before .before .before .before .before .before .before .before .before .args .bytes .now)) (c .before .before .before .before .before .before .before .read .result) (c .before .before .before .before .before .before .before .read .ensures) (replied (c .before .before .before .before .read-reply .ensures) (c .before .before .put-reply .ensures)))
 
 pub read-spec : {M : Type 1} → statement M
 read-spec =

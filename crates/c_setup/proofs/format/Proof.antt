@@ -13,7 +13,7 @@ returns c = called-wrong (c .before .before .before .before .before .args .answe
 
 returns-2 : tie.Need-returns-2
 unfolding formatCall
-returns-2 c = called-made (c .before .before .before .before .before .before .before .before .before .before .before .before .before .args .answer .now) _ _ _ (c .before .before .before .before .before .before .before .before .before .before .answer-size .ensures) (c .before .before .before .before .before .before .before .before .before .if1 .left) refl (format-left _ _ (c .before .before .before .before .before .before .before .format .result) (c .before .before .before .before .before .before .before .format .ensures) (replied (c .before .before .before .before .format-reply .ensures) (c .before .before .put-reply .ensures)))
+returns-2 c = called-made (c .before .before .before .before .before .before .before .before .before .before .before .before .before .args .answer .now) _ _ _ (c .before .before .before .before .before .before .before .before .before .before .answer-size .ensures) (c .before .before .before .before .before .before .before .before .before .if1 .left) refl (format-left (c .before .before .before .before .before .before .before .format .result) (c .before .before .before .before .before .before .before .format .ensures) (replied (c .before .before .before .before .format-reply .ensures) (c .before .before .put-reply .ensures)))
 
 pub format-spec : {M : Type 1} → statement M
 format-spec =

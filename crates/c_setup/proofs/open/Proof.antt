@@ -17,7 +17,7 @@ returns-2 c = called-bad (c .before .before .before .before .before .before .bef
 
 returns-3 : tie.Need-returns-3
 unfolding openCall
-returns-3 c = called-made (c .before .before .before .before .before .before .before .before .before .before .before .before .before .before .before .before .before .before .before .before .before .args .answer .now) _ _ _ (c .before .before .before .before .before .before .before .before .before .before .before .before .before .before .before .before .answer-size .ensures) (c .before .before .before .before .before .before .before .before .before .before .before .before .before .before .before .if1 .left) (length-agrees (c .before .before .before .before .before .before .before .before .before .before .before .before .before .before .volume-state-size .ensures) (c .before .before .before .before .before .before .before .before .before .before .before .before .before .if2 .left)) (open-left _ (c .before .before .before .before .before .before .before .before .before .before .before .before .before .before .before .before .before .before .before .before .before .args .staging .now) _ (c .before .before .before .before .before .before .before .before .before .before .before .before .before .before .before .before .before .before .before .before .before .args .state .now) (c .before .before .before .before .before .before .before .before .before .before .before .«open» .result) (c .before .before .before .before .before .before .before .before .before .before .before .«open» .ensures) (c .before .before .before .before .before .before .before .put-opened .ensures) (replied (c .before .before .before .before .open-reply .ensures) (c .before .before .put-reply .ensures)))
+returns-3 c = called-made (c .before .before .before .before .before .before .before .before .before .before .before .before .before .before .before .before .before .before .before .before .before .args .answer .now) _ _ _ (c .before .before .before .before .before .before .before .before .before .before .before .before .before .before .before .before .answer-size .ensures) (c .before .before .before .before .before .before .before .before .before .before .before .before .before .before .before .if1 .left) (length-agrees (c .before .before .before .before .before .before .before .before .before .before .before .before .before .before .volume-state-size .ensures) (c .before .before .before .before .before .before .before .before .before .before .before .before .before .if2 .left)) (open-left (c .before .before .before .before .before .before .before .before .before .before .before .before .before .before .before .before .before .before .before .before .before .args .state .now) (c .before .before .before .before .before .before .before .before .before .before .before .«open» .result) (c .before .before .before .before .before .before .before .before .before .before .before .«open» .ensures) (c .before .before .before .before .before .before .before .put-opened .ensures) (replied (c .before .before .before .before .open-reply .ensures) (c .before .before .put-reply .ensures)))
 
 pub open-spec : {M : Type 1} → statement M
 open-spec =
