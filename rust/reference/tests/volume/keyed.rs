@@ -212,7 +212,7 @@ fn a_write_under_a_wrong_key() {
         calls::step(&mut state, &mut volume, &mut staging).unwrap();
     }
     for sector in 0..LAYOUT.provided {
-        let mut read = |rule| {
+        let read = |rule| {
             let mut out = [9; 512];
             calls::read_by(rule, &state, &volume, &staging, sector, &mut out)
         };
