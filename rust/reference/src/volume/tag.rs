@@ -16,6 +16,7 @@ pub enum TagRule<'a> {
 }
 
 /// A rule made ready for many sectors.
+#[allow(clippy::large_enum_variant)] // a call has one of it
 pub(super) enum Tags {
     Digest,
     Hmac(Kept),
