@@ -21,6 +21,7 @@
  *   - Only steps store to a formatted volume. Format is not covered: after a cut during it the volume is formatted anew.
  *   - After a cut state and staging are thrown away and the volume is opened, with the reserved sectors it was formatted with.
  *   - A state and its staging belong to one open volume and to its calls in order, and are never gone back to.
+ *   - The calls of a volume all have the same key, from format on, or all have none.
  *   - gaffreel_volume_advance names only its last sector: it is for a medium that the lent bytes are, as mapped memory;
  *     for a copy of the medium there are gaffreel_volume_step and gaffreel_volume_next_store.
  * What is proved holds of the source, on the language's abstract machine; trusted are the prover, the compiler behind it,
