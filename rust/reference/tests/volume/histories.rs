@@ -5,7 +5,7 @@ use random::{cases, Random};
 use reference::volume::ledger::Ledger;
 use reference::volume::{Layout, Phase};
 use volumes::any::small_layout;
-use volumes::keyed::any_key;
+use volumes::keyed::{any_key, wrong_key_length};
 
 /// Few sectors of a volume, so that the same one is often written twice.
 fn sector(random: &mut Random, layout: &Layout) -> u64 {
@@ -35,6 +35,11 @@ fn refused_writes(world: &mut World, random: &mut Random) {
     assert!(world.write(u64::MAX, &random.bytes(512)).is_err());
     let length = random.pick(&[0, 511, 513, 1024]);
     assert!(world.write(0, &random.bytes(length)).is_err());
+    for length in [512, length] {
+        let sector = sector(random, &world.layout);
+        let key_length = wrong_key_length(random);
+        world.calls_with_a_refused_key(sector, &random.bytes(length), key_length);
+    }
 }
 
 fn steps(world: &mut World, random: &mut Random) {
@@ -70,6 +75,8 @@ fn cuts(world: &mut World, random: &mut Random) {
     world.check_whole();
     while random.number().is_multiple_of(3) {
         world.open_with_wrong_staging(random);
+        let length = wrong_key_length(random);
+        world.open_with_a_refused_key(random, length);
     }
     while random.number().is_multiple_of(2) {
         let stores = world.open(random) as usize;

@@ -102,6 +102,18 @@ impl World {
         self.record(Event::Open, true);
     }
 
+    /// An open under a key that no call takes: it is refused.
+    pub fn open_with_a_refused_key(&mut self, random: &mut Random, length: usize) {
+        assert!(self.live.is_none());
+        let key = vec![7; length];
+        let mut staging = random.bytes(self.geometry.staging_length());
+        let refused_key = TagRule::Hmac(&key);
+        let reserved = self.layout.reserved;
+        let answer = calls::open_by(refused_key, &self.volume, reserved, &mut staging);
+        assert_eq!(answer, Err(Refusal::Parameter));
+        self.record(Event::Open, true);
+    }
+
     pub fn write(&mut self, sector: u64, bytes: &[u8]) -> Result<(), Refusal> {
         let (state, staging) = self.live.as_mut().unwrap();
         let expected = if bytes.len() != 512 {
@@ -120,6 +132,25 @@ impl World {
         let bytes = bytes.to_vec();
         self.record(Event::Write { sector, bytes }, answer.is_err());
         answer
+    }
+
+    /// A write and a read under a key that no call takes. They are refused, for the key unless state or bytes are, and change nothing.
+    pub fn calls_with_a_refused_key(&mut self, sector: u64, bytes: &[u8], length: usize) {
+        let key = vec![7; length];
+        let refused_key = TagRule::Hmac(&key);
+        let (state, staging) = self.live.as_mut().unwrap();
+        let expected = match bytes.len() {
+            512 => Err(Refusal::Parameter),
+            _ => Err(Refusal::LengthOrState),
+        };
+        let answer = calls::write_by(refused_key, state, staging, sector, bytes);
+        assert_eq!(answer, expected);
+        let (volume, mut out) = (&self.volume, bytes.to_vec());
+        let answer = calls::read_by(refused_key, state, volume, staging, sector, &mut out);
+        assert_eq!(answer, expected);
+        let bytes = bytes.to_vec();
+        self.record(Event::Write { sector, bytes }, true);
+        self.record(Event::Read, true);
     }
 
     pub fn flush(&mut self) -> Result<Flushed, Refusal> {
