@@ -472,7 +472,7 @@ uint32_t gaffreel_volume_read(const uint8_t *state, size_t state_length, const u
  *     nothing to replay takes any key; a read behind it, of a sector that is known to be good, tells the right one.
  *   - A write under a wrong key, or without one, is not noticed: its batch is committed and acknowledged with tags of that key.
  *     Under the right key its sectors are then refused until they are written again, and every open is as long as the
- *     journal has the batch.
+ *     batch stands whole in the journal.
  *   - A format under a wrong key makes a volume of that key.
  *
  * Left open: the key's bytes, and what is computed from them, may stay on the stack after a call; and no time is promised, so
