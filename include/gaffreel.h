@@ -21,6 +21,7 @@
  *   - Only steps store to a formatted volume. Format is not covered: after a cut during it the volume is formatted anew.
  *   - After a cut state and staging are thrown away and the volume is opened, with the reserved sectors it was formatted with.
  *   - A state and its staging belong to one open volume and to its calls in order, and are never gone back to.
+ *   - The calls of a volume all have the same key, from format on, or all have none.
  *   - gaffreel_volume_advance names only its last sector: it is for a medium that the lent bytes are, as mapped memory;
  *     for a copy of the medium there are gaffreel_volume_step and gaffreel_volume_next_store.
  * What is proved holds of the source, on the language's abstract machine; trusted are the prover, the compiler behind it,
@@ -33,22 +34,27 @@
  * Stack: the most bytes that a call takes below its caller's frame, to which arguments on the stack belong; its return address
  * is included, and memcpy and memset with 8 bytes each, as glibc's take. Measured over good and hostile calls, and rounded up.
  *
- *     gaffreel_sha256             2,048
- *     gaffreel_sha256_new            64
- *     gaffreel_sha256_update      1,600
- *     gaffreel_sha256_finish      1,792
- *     gaffreel_volume_format      3,136
- *     gaffreel_volume_query         256
- *     gaffreel_volume_open        3,648
- *     gaffreel_volume_write       2,624
- *     gaffreel_volume_flush         384
- *     gaffreel_volume_step        2,304
- *     gaffreel_volume_next_store  1,728
- *     gaffreel_volume_advance     3,712
- *     gaffreel_volume_read        3,200
- *     gaffreel_tree_length           64
- *     gaffreel_tree_build         2,816
- *     gaffreel_tree_verify        2,560
+ *     gaffreel_sha256               2,048
+ *     gaffreel_sha256_new              64
+ *     gaffreel_sha256_update        1,600
+ *     gaffreel_sha256_finish        1,792
+ *     gaffreel_hmac_sha256          2,560
+ *     gaffreel_volume_format        3,136
+ *     gaffreel_volume_query           256
+ *     gaffreel_volume_open          3,648
+ *     gaffreel_volume_write         2,624
+ *     gaffreel_volume_flush           384
+ *     gaffreel_volume_step          2,304
+ *     gaffreel_volume_next_store    1,728
+ *     gaffreel_volume_advance       3,712
+ *     gaffreel_volume_read          3,200
+ *     gaffreel_volume_format_keyed  4,096
+ *     gaffreel_volume_open_keyed    4,096
+ *     gaffreel_volume_write_keyed   4,096
+ *     gaffreel_volume_read_keyed    4,096
+ *     gaffreel_tree_length             64
+ *     gaffreel_tree_build           2,816
+ *     gaffreel_tree_verify          2,560
  *
  * An interrupt taken on the same stack comes on top, and must leave the 128 bytes below the stack pointer as they are: the
  * archive uses them, as the calling convention allows (the red zone).
@@ -104,6 +110,32 @@
  *         return found[0] == 1 ? 0 : 1;
  *     }
  *
+ * A volume whose tags need a key: with another key, none of its sectors is read.
+ *
+ *     #include "gaffreel.h"
+ *
+ *     static uint8_t volume[120 * GAFFREEL_VOLUME_SECTOR_SIZE], staging[88 * GAFFREEL_VOLUME_SECTOR_SIZE];
+ *
+ *     int main(void) {
+ *         static const uint8_t key[] = {'k', 'e', 'y'}, other[] = {'K', 'e', 'y'};
+ *         uint8_t state[GAFFREEL_VOLUME_STATE_SIZE], answer[GAFFREEL_VOLUME_ANSWER_SIZE];
+ *         uint8_t found[GAFFREEL_VOLUME_SECTOR_SIZE];
+ *
+ *         if (gaffreel_volume_format_keyed(volume, sizeof volume, 0, 4, 32, 1, 16, key, sizeof key, answer, sizeof answer)
+ *                 != GAFFREEL_DONE
+ *             || gaffreel_volume_open_keyed(volume, sizeof volume, staging, sizeof staging, 0, key, sizeof key, state,
+ *                                           sizeof state, answer, sizeof answer) != GAFFREEL_DONE
+ *             || gaffreel_volume_read_keyed(state, sizeof state, volume, sizeof volume, staging, sizeof staging, 5, found,
+ *                                           sizeof found, key, sizeof key, answer, sizeof answer) != GAFFREEL_DONE) {
+ *             return 1;
+ *         }
+ *         return gaffreel_volume_read_keyed(state, sizeof state, volume, sizeof volume, staging, sizeof staging, 5, found,
+ *                                           sizeof found, other, sizeof other, answer, sizeof answer)
+ *                        == GAFFREEL_TAG_MISMATCH
+ *                    ? 0
+ *                    : 1;
+ *     }
+ *
  * The hash tree over an image of two blocks, and a block of it verified:
  *
  *     #include "gaffreel.h"
@@ -140,7 +172,7 @@ enum gaffreel_answer {
     GAFFREEL_DONE = 0,
     /* Refused: a buffer has a wrong length, a state is not sound, or the digest's limit is passed. */
     GAFFREEL_LENGTH_OR_LIMIT = 1,
-    /* Refused: a number, or the salt's length, is out of range. */
+    /* Refused: a number, or the length of the salt or of a key, is out of range. */
     GAFFREEL_OUT_OF_RANGE = 2,
     /* Refused: the superblock is not zero where a volume is to be formatted, or is zero where one is to be opened. */
     GAFFREEL_SUPERBLOCK = 3,
@@ -212,6 +244,25 @@ uint32_t gaffreel_sha256_update(uint8_t *state, size_t state_length, const uint8
  * GAFFREEL_SHA256_DIGEST_SIZE, or the state's count is more than GAFFREEL_SHA256_LIMIT.
  */
 uint32_t gaffreel_sha256_finish(const uint8_t *state, size_t state_length, uint8_t *digest, size_t digest_length);
+
+/* ---- HMAC with SHA-256 (RFC 2104) */
+
+/* The longest key, in bytes, of every call that takes one. The shortest has 1. */
+#define GAFFREEL_LONGEST_KEY 256
+
+/* The most bytes that a message may have: 2^61 - 65. The block that is made of the key counts towards SHA-256's limit. */
+#define GAFFREEL_HMAC_SHA256_LIMIT (GAFFREEL_SHA256_LIMIT - 64)
+
+/*
+ * Writes the HMAC of a message under a key to `digest`.
+ *
+ * Refused, in this order, with
+ *   - GAFFREEL_LENGTH_OR_LIMIT where digest_length is not GAFFREEL_SHA256_DIGEST_SIZE;
+ *   - GAFFREEL_OUT_OF_RANGE where key_length is 0 or more than GAFFREEL_LONGEST_KEY;
+ *   - GAFFREEL_LENGTH_OR_LIMIT where the message is longer than GAFFREEL_HMAC_SHA256_LIMIT.
+ */
+uint32_t gaffreel_hmac_sha256(const uint8_t *key, size_t key_length, const uint8_t *message, size_t message_length,
+                              uint8_t *digest, size_t digest_length);
 
 /*
  * ---- The volume (after dm-integrity): sectors with a tag each, and a journal
@@ -402,6 +453,52 @@ uint32_t gaffreel_volume_advance(uint8_t *state, size_t state_length, uint8_t *v
 uint32_t gaffreel_volume_read(const uint8_t *state, size_t state_length, const uint8_t *volume, size_t volume_length,
                               const uint8_t *staging, size_t staging_length, size_t sector, uint8_t *bytes,
                               size_t bytes_length, uint8_t *answer, size_t answer_length);
+
+/*
+ * ---- The volume with a key
+ *
+ * The calls above make tags by SHA-256, which anybody can compute. Those below make and test them by HMAC with SHA-256 under a
+ * key: a tag is the first bytes of the HMAC of the logical sector's number, 8 bytes, and its 512 bytes. All else is as with the
+ * call of the same name without a key. gaffreel_volume_query, _flush, _step, _next_store and _advance take no key: they carry
+ * tags as they stand.
+ *
+ * A key has 1 to GAFFREEL_LONGEST_KEY bytes. With any other length the call is refused with GAFFREEL_OUT_OF_RANGE, right behind
+ * the first test for GAFFREEL_LENGTH_OR_LIMIT that its list has: before any other refusal of that list, and at open before
+ * the test of staging's length too.
+ *
+ * The same key is lent at every call of a volume, from format on. Neither volume nor state keeps the key, or that there is one.
+ *   - A wrong key, or a call without one, shows only where a tag is tested and differs, as GAFFREEL_TAG_MISMATCH: at open for an
+ *     entry that is to be replayed, at read for a sector that is not in the batch. It cannot be told from damage. An open with
+ *     nothing to replay takes any key; a read behind it, of a sector that is known to be good, tells the right one.
+ *   - A write under a wrong key, or without one, is not noticed: its batch is committed and acknowledged with tags of that key.
+ *     Under the right key its sectors are then refused until they are written again, and every open is as long as the
+ *     batch stands whole in the journal.
+ *   - A format under a wrong key makes a volume of that key.
+ *
+ * Left open: the key's bytes, and what is computed from them, may stay on the stack after a call; and no time is promised, so
+ * that how long a comparison of tags takes may tell how many of their first bytes agree.
+ */
+
+/* As gaffreel_volume_format, with a key. */
+uint32_t gaffreel_volume_format_keyed(uint8_t *volume, size_t volume_length, size_t reserved, size_t shift, size_t width,
+                                      size_t sections, size_t provided, const uint8_t *key, size_t key_length,
+                                      uint8_t *answer, size_t answer_length);
+
+/* As gaffreel_volume_open, with a key. */
+uint32_t gaffreel_volume_open_keyed(const uint8_t *volume, size_t volume_length, uint8_t *staging, size_t staging_length,
+                                    size_t reserved, const uint8_t *key, size_t key_length, uint8_t *state,
+                                    size_t state_length, uint8_t *answer, size_t answer_length);
+
+/* As gaffreel_volume_write, with a key. */
+uint32_t gaffreel_volume_write_keyed(uint8_t *state, size_t state_length, uint8_t *staging, size_t staging_length,
+                                     size_t sector, const uint8_t *bytes, size_t bytes_length, const uint8_t *key,
+                                     size_t key_length, uint8_t *answer, size_t answer_length);
+
+/* As gaffreel_volume_read, with a key. */
+uint32_t gaffreel_volume_read_keyed(const uint8_t *state, size_t state_length, const uint8_t *volume,
+                                    size_t volume_length, const uint8_t *staging, size_t staging_length, size_t sector,
+                                    uint8_t *bytes, size_t bytes_length, const uint8_t *key, size_t key_length,
+                                    uint8_t *answer, size_t answer_length);
 
 /*
  * ---- The hash tree (dm-verity, format 1)

@@ -6,7 +6,10 @@
 #   replay           three sectors written, and a power cut after the 88th store: the batch is in the journal, and not in its place yet
 #   torn             a sector written, then again, and a cut after 40 stores of that: the section is torn, and the older data is kept
 #   two_bad_sectors  two sectors written; then a byte of sector 3's data and a byte of sector 12's tag damaged, which no replay mends
+#   keyed            as replay, with the key in keyed.key; the bench program has no key, and finds a tag in the journal that does not fit
+#   keyed_fresh      as format leaves it with that key; without the key, no sector's tag fits
 set -euo pipefail
+key=$(cd "$(dirname "$0")" && pwd)/keyed.key
 cd "$1"
 
 # Sectors of one byte: stock BYTE COUNT.
@@ -34,4 +37,8 @@ damage() {
     # Sector 3 lies at 96 + 8 + 3; the tag of sector 12 starts at byte 96 × 512 + 12 × 32.
     damage two_bad_sectors.img $((107 * 512 + 100)) x
     damage two_bad_sectors.img $((96 * 512 + 12 * 32 + 31)) x
+
+    gaffreel format keyed_fresh.img --key-file "$key"
+    cp keyed_fresh.img keyed.img
+    stock a 3 | gaffreel write keyed.img 5 --cut-after 88 --key-file "$key"
 } >/dev/null

@@ -54,6 +54,11 @@ for image in samples/*.img; do
     prints "$image" "${image%.img}.txt"
 done
 
+# With their key, those that have one are as good as those without.
+for pair in keyed:replay keyed_fresh:fresh; do
+    gaffreel check "samples/${pair%:*}.img" --key-file samples/keyed.key | cmp - "samples/${pair#*:}.txt"
+done
+
 # The image on which the gate's own run of the bench is made is one of them.
 cmp crates/bench/stdin samples/two_bad_sectors.img
 cmp crates/bench/stdout samples/two_bad_sectors.txt

@@ -30,8 +30,8 @@ awk -v work="$work" '
     example { sub(/^ \*(     )?/, ""); print > example }
 ' include/gaffreel.h
 examples=("$work"/example-*.c)
-if [ "${#examples[@]}" != 3 ]; then
-    echo "include/gaffreel.h has three examples in its opening comment; found: ${examples[*]}"
+if [ "${#examples[@]}" != 4 ]; then
+    echo "include/gaffreel.h has four examples in its opening comment; found: ${examples[*]}"
     exit 1
 fi
 

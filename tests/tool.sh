@@ -26,7 +26,9 @@ fi
 echo "docs/gaffreel.md: the example prints what the page says"
 
 for image in samples/*.img; do
-    gaffreel drill "$image" >"$work/drill" || {
+    key=()
+    [[ $image != samples/keyed* ]] || key=(--key-file samples/keyed.key)
+    gaffreel drill "$image" "${key[@]}" >"$work/drill" || {
         cat "$work/drill"
         exit 1
     }

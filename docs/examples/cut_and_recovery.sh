@@ -1,5 +1,5 @@
 #!/usr/bin/env bash
-# A volume from format to a power cut, its recovery, damage and a drill. Works in a folder of its own; gaffreel must be on
+# A volume from format to a power cut, its recovery, damage and a drill; and one with a key. Works in a folder of its own; gaffreel must be on
 # the PATH. What it prints stands in docs/gaffreel.md.
 set -euo pipefail
 
@@ -39,3 +39,10 @@ show 'gaffreel read stock.img 9'
 echo
 echo '# Every cut of a random history, on copies. The damaged sector stays refused until it is written.'
 show 'gaffreel drill stock.img'
+echo
+echo '# A volume whose tags need a key. Without it the batch in the journal is refused.'
+show 'printf %s "key of the cabinet" >key'
+show 'gaffreel format cabinet.img --key-file key'
+show 'gaffreel write cabinet.img 5 --input old --key-file key'
+show 'gaffreel check cabinet.img --key-file key'
+show 'gaffreel check cabinet.img'

@@ -32,8 +32,12 @@ enum {
     MISMATCH = 1 << GAFFREEL_MISMATCH,
     /* What several calls have in common. */
     ALWAYS = DONE | LENGTH_OR_LIMIT,
-    OF_QUERY = ALWAYS | OUT_OF_RANGE | SHORT | SUPERBLOCK | INVALID,
-    OF_STEP = ALWAYS | SECTOR_RANGE
+    OF_FORMAT = ALWAYS | OUT_OF_RANGE | SHORT | SUPERBLOCK,
+    OF_QUERY = OF_FORMAT | INVALID,
+    OF_OPEN = OF_QUERY | EXHAUSTED | MISPLACED | SECTOR_RANGE | TAG_MISMATCH,
+    OF_WRITE = ALWAYS | NOT_NOW | SECTOR_RANGE | FULL,
+    OF_STEP = ALWAYS | SECTOR_RANGE,
+    OF_READ = ALWAYS | NOT_NOW | SECTOR_RANGE | TAG_MISMATCH
 };
 
 #define ROW(function, answers) {#function, (any_function *)function, answers, 0, 0, 0}
@@ -43,15 +47,20 @@ static struct call calls[] = {
     ROW(gaffreel_sha256_new, ALWAYS),
     ROW(gaffreel_sha256_update, ALWAYS),
     ROW(gaffreel_sha256_finish, ALWAYS),
-    ROW(gaffreel_volume_format, ALWAYS | OUT_OF_RANGE | SHORT | SUPERBLOCK),
+    ROW(gaffreel_hmac_sha256, ALWAYS | OUT_OF_RANGE),
+    ROW(gaffreel_volume_format, OF_FORMAT),
     ROW(gaffreel_volume_query, OF_QUERY),
-    ROW(gaffreel_volume_open, OF_QUERY | EXHAUSTED | MISPLACED | SECTOR_RANGE | TAG_MISMATCH),
-    ROW(gaffreel_volume_write, ALWAYS | NOT_NOW | SECTOR_RANGE | FULL),
+    ROW(gaffreel_volume_open, OF_OPEN),
+    ROW(gaffreel_volume_write, OF_WRITE),
     ROW(gaffreel_volume_flush, ALWAYS | NOT_NOW | EXHAUSTED),
     ROW(gaffreel_volume_step, OF_STEP),
     ROW(gaffreel_volume_next_store, OF_STEP),
     ROW(gaffreel_volume_advance, OF_STEP),
-    ROW(gaffreel_volume_read, ALWAYS | NOT_NOW | SECTOR_RANGE | TAG_MISMATCH),
+    ROW(gaffreel_volume_read, OF_READ),
+    ROW(gaffreel_volume_format_keyed, OF_FORMAT),
+    ROW(gaffreel_volume_open_keyed, OF_OPEN),
+    ROW(gaffreel_volume_write_keyed, OF_WRITE | OUT_OF_RANGE),
+    ROW(gaffreel_volume_read_keyed, OF_READ | OUT_OF_RANGE),
     ROW(gaffreel_tree_length, 0),
     ROW(gaffreel_tree_build, ALWAYS | OUT_OF_RANGE),
     ROW(gaffreel_tree_verify, ALWAYS | OUT_OF_RANGE | MISMATCH),

@@ -33,6 +33,16 @@ void fill(uint8_t *at, size_t length) {
     }
 }
 
+const size_t key_lengths[KEY_LENGTHS] = {0, 1, 63, 64, 65, 255, 256, 257};
+
+struct loan key_of(uint8_t *buffer, size_t length) {
+    return (struct loan){length == 0 ? NULL : buffer, length};
+}
+
+struct loan any_key(uint8_t *buffer) {
+    return key_of(buffer, draw(4) ? 1 + draw(256) : key_lengths[draw(KEY_LENGTHS)]);
+}
+
 struct loan any_length(struct loan loan) {
     size_t lengths[] = {loan.length + 1, loan.length - 1, loan.length - SECTOR};
     size_t drawn = draw(64);

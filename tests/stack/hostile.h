@@ -23,6 +23,16 @@ uint64_t draw_number(void);
 /* Random bytes. */
 void fill(uint8_t *at, size_t length);
 
+/* The lengths of keys at which a rule changes, and those beside them; a buffer for keys has room for the longest. */
+enum { KEY_LENGTHS = 8, KEY_ROOM = 258 };
+extern const size_t key_lengths[KEY_LENGTHS];
+
+/* The first bytes of a buffer for keys as a key of this length, NULL where it is 0. */
+struct loan key_of(uint8_t *buffer, size_t length);
+
+/* A key of any length that the buffer has room for; most are taken. */
+struct loan any_key(uint8_t *buffer);
+
 /* The loan, or now and then one of another length: a byte or a sector off, or empty and NULL. */
 struct loan any_length(struct loan loan);
 

@@ -2,8 +2,8 @@
 
 /*
  * Calls painted_function on the stack whose top is painted_top, with the arguments that this function is called with. Six
- * arguments are in registers, and stay there; six words behind them are copied, as many as the longest exported call has.
- * A call with fewer does not look at the others.
+ * arguments are in registers, and stay there; eight words behind them are copied: the longest exported call has seven, and
+ * an even number leaves the stack aligned. A call with fewer does not look at the others.
  */
     .text
     .globl on_painted_stack
@@ -12,6 +12,8 @@ on_painted_stack:
     push %rbp
     mov %rsp, %rbp
     mov painted_top(%rip), %rsp
+    push 72(%rbp)
+    push 64(%rbp)
     push 56(%rbp)
     push 48(%rbp)
     push 40(%rbp)

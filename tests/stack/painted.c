@@ -8,7 +8,7 @@ enum {
     /* The painted words: several times what a call takes. */
     PAINTED = 4096,
     /* The words above them, for the arguments that on_painted_stack copies. */
-    ARGUMENTS = 6
+    ARGUMENTS = 8
 };
 
 /* At a call the stack pointer is at painted[PAINTED], which the calling convention asks to be a multiple of 16. */

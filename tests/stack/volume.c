@@ -19,11 +19,15 @@ enum {
 
 /* Each has a byte more than is lent. */
 static uint8_t volume[MOST_SECTORS * SECTOR + 1], staging[LARGEST_SECTION * SECTOR + 1], state[STATE + 1],
-    layout[LAYOUT + 1], bytes[SECTOR + 1], answer[ANSWER + 1];
+    layout[LAYOUT + 1], bytes[SECTOR + 1], answer[ANSWER + 1], key[KEY_ROOM];
 
 struct given fit;
 
 uint64_t format_volume(const struct given *g) {
+    if (g->keyed) {
+        return CALL(gaffreel_volume_format_keyed, LENT(g->volume), g->reserved, g->shift, g->width, g->sections, g->provided,
+                    LENT(g->key), LENT(g->answer));
+    }
     return CALL(gaffreel_volume_format, LENT(g->volume), g->reserved, g->shift, g->width, g->sections, g->provided,
                 LENT(g->answer));
 }
@@ -33,10 +37,18 @@ uint64_t query_volume(const struct given *g) {
 }
 
 uint64_t open_volume(const struct given *g) {
+    if (g->keyed) {
+        return CALL(gaffreel_volume_open_keyed, LENT(g->volume), LENT(g->staging), g->reserved, LENT(g->key), LENT(g->state),
+                    LENT(g->answer));
+    }
     return CALL(gaffreel_volume_open, LENT(g->volume), LENT(g->staging), g->reserved, LENT(g->state), LENT(g->answer));
 }
 
 uint64_t write_sector(const struct given *g) {
+    if (g->keyed) {
+        return CALL(gaffreel_volume_write_keyed, LENT(g->state), LENT(g->staging), g->sector, LENT(g->bytes), LENT(g->key),
+                    LENT(g->answer));
+    }
     return CALL(gaffreel_volume_write, LENT(g->state), LENT(g->staging), g->sector, LENT(g->bytes), LENT(g->answer));
 }
 
@@ -63,11 +75,16 @@ uint64_t advance_steps(const struct given *g) {
 }
 
 uint64_t read_sector(const struct given *g) {
+    if (g->keyed) {
+        return CALL(gaffreel_volume_read_keyed, LENT(g->state), LENT(g->volume), LENT(g->staging), g->sector, LENT(g->bytes),
+                    LENT(g->key), LENT(g->answer));
+    }
     return CALL(gaffreel_volume_read, LENT(g->state), LENT(g->volume), LENT(g->staging), g->sector, LENT(g->bytes),
                 LENT(g->answer));
 }
 
-void begin(size_t width, size_t sections) {
+void begin(size_t width, size_t sections, size_t key_length) {
+    fill(key, KEY_ROOM);
     fit = (struct given){
         .volume = {volume, 0},
         .staging = {staging, 0},
@@ -75,6 +92,8 @@ void begin(size_t width, size_t sections) {
         .layout = {layout, LAYOUT},
         .bytes = {bytes, SECTOR},
         .answer = {answer, ANSWER},
+        .key = key_of(key, key_length),
+        .keyed = key_length > 0,
         .reserved = draw(MOST_RESERVED + 1),
         .shift = LEAST_SHIFT + draw(SHIFTS),
         .width = width,

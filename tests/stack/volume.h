@@ -29,9 +29,10 @@ enum {
     COMMIT_ID_AT = 504
 };
 
-/* What a call is given; each takes its part of it. */
+/* What a call is given; each takes its part of it. Format, open, write and read are those with the key where `keyed` is set. */
 struct given {
-    struct loan volume, staging, state, layout, bytes, answer;
+    struct loan volume, staging, state, layout, bytes, answer, key;
+    int keyed;
     size_t reserved, shift, width, sections, provided, sector, steps;
 };
 
@@ -43,8 +44,8 @@ typedef uint64_t volume_call(const struct given *given);
 volume_call format_volume, query_volume, open_volume, write_sector, flush_batch, make_step, make_next_store, advance_steps,
     read_sector;
 
-/* A fresh volume, open, with tags of so many bytes and so many sections. */
-void begin(size_t width, size_t sections);
+/* A fresh volume, open, with tags of so many bytes and so many sections, and a key of so many bytes; without a key where these are 0. */
+void begin(size_t width, size_t sections, size_t key_length);
 
 /* The sectors of a section, and its entries. */
 size_t section_size(void);

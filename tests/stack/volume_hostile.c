@@ -1,5 +1,6 @@
 /*
- * The calls of the volume in any order, with any lengths and numbers; volume, state and staging are damaged now and then.
+ * The calls of the volume in any order, with any lengths and numbers; volume, state and staging are damaged now and then. Half of the
+ * rounds have a key, and there keys of any length come too, and calls without one.
  */
 #include "calls.h"
 #include "volume.h"
@@ -68,12 +69,16 @@ static struct given any_given(void) {
     if (draw(8) == 0) {
         *numbers[draw(sizeof numbers / sizeof *numbers)] = draw_number();
     }
+    if (g.keyed && draw(8) == 0) {
+        g.key = any_key(g.key.at);
+        g.keyed = draw(4) > 0;
+    }
     return g;
 }
 
 static void hostile_round(void) {
     size_t i;
-    begin(LEAST_WIDTH << draw(WIDTHS), 1 + draw(4));
+    begin(LEAST_WIDTH << draw(WIDTHS), 1 + draw(4), draw(2) ? 1 + draw(GAFFREEL_LONGEST_KEY) : 0);
     for (i = 0; i < CALLS_IN_ROUND; i++) {
         struct given g = any_given();
         calls[draw(sizeof calls / sizeof *calls)](&g);

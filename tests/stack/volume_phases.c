@@ -1,4 +1,7 @@
-/* The calls of the volume in every phase, at the first, the middle and the last store of each, with full sections. */
+/*
+ * The calls of the volume in every phase, at the first, the middle and the last store of each, with full sections; without a key, and
+ * with keys of the lengths at which a rule changes.
+ */
 #undef NDEBUG
 
 #include "calls.h"
@@ -177,23 +180,44 @@ static void filling(void) {
     assert(flush_batch(&fit) == GAFFREEL_DONE && flush_batch(&fit) == GAFFREEL_NOT_NOW);
 }
 
-static void every_phase(size_t width, size_t sections) {
+/* The calls with a key on a volume that is filling, with keys of each of the lengths: wrong ones, and such as are refused. */
+static void other_keys(void) {
+    static uint8_t other[KEY_ROOM];
+    volume_call *const with_key[] = {format_volume, open_volume, write_sector, read_sector};
+    struct given g = fit;
     size_t i;
-    begin(width, sections);
+    for (i = 0; i < KEY_LENGTHS * sizeof with_key / sizeof *with_key; i++) {
+        size_t length = key_lengths[i % KEY_LENGTHS];
+        uint64_t answer;
+        g.key = key_of(other, length);
+        answer = with_key[i / KEY_LENGTHS](&g);
+        assert((answer == GAFFREEL_OUT_OF_RANGE) == (length == 0 || length > GAFFREEL_LONGEST_KEY));
+    }
+}
+
+static void every_phase(size_t width, size_t sections, size_t key_length) {
+    size_t i;
+    begin(width, sections, key_length);
     for (i = 0; i < sections; i++) {
         commit_batch();
     }
     wrong_commit_ids();
     recovering();
+    if (fit.keyed) {
+        other_keys();
+        recovering();
+    }
     filling();
     committing();
     writing_back();
 }
 
 void call_volume_phases(void) {
-    static const size_t sections[] = {1, 2, 7, MOST_SECTIONS};
+    static const size_t sections[] = {1, 2, 7, MOST_SECTIONS}, taken_keys[] = {1, 64, 65, 256};
     size_t i;
     for (i = 0; i < WIDTHS * sizeof sections / sizeof *sections; i++) {
-        every_phase(LEAST_WIDTH << i % WIDTHS, sections[i / WIDTHS]);
+        size_t width = LEAST_WIDTH << i % WIDTHS;
+        every_phase(width, sections[i / WIDTHS], 0);
+        every_phase(width, sections[i / WIDTHS], taken_keys[i % (sizeof taken_keys / sizeof *taken_keys)]);
     }
 }

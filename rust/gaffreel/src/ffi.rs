@@ -30,6 +30,15 @@ unsafe extern "C" {
         digest_length: usize,
     ) -> u32;
 
+    fn gaffreel_hmac_sha256(
+        key: *const u8,
+        key_length: usize,
+        message: *const u8,
+        message_length: usize,
+        digest: *mut u8,
+        digest_length: usize,
+    ) -> u32;
+
     safe fn gaffreel_tree_length(count: usize) -> usize;
 
     fn gaffreel_tree_build(
@@ -161,6 +170,64 @@ unsafe extern "C" {
         answer: *mut u8,
         answer_length: usize,
     ) -> u32;
+
+    fn gaffreel_volume_format_keyed(
+        volume: *mut u8,
+        volume_length: usize,
+        reserved: usize,
+        shift: usize,
+        width: usize,
+        sections: usize,
+        provided: usize,
+        key: *const u8,
+        key_length: usize,
+        answer: *mut u8,
+        answer_length: usize,
+    ) -> u32;
+
+    fn gaffreel_volume_open_keyed(
+        volume: *const u8,
+        volume_length: usize,
+        staging: *mut u8,
+        staging_length: usize,
+        reserved: usize,
+        key: *const u8,
+        key_length: usize,
+        state: *mut u8,
+        state_length: usize,
+        answer: *mut u8,
+        answer_length: usize,
+    ) -> u32;
+
+    fn gaffreel_volume_write_keyed(
+        state: *mut u8,
+        state_length: usize,
+        staging: *mut u8,
+        staging_length: usize,
+        sector: usize,
+        bytes: *const u8,
+        bytes_length: usize,
+        key: *const u8,
+        key_length: usize,
+        answer: *mut u8,
+        answer_length: usize,
+    ) -> u32;
+
+    fn gaffreel_volume_read_keyed(
+        state: *const u8,
+        state_length: usize,
+        volume: *const u8,
+        volume_length: usize,
+        staging: *const u8,
+        staging_length: usize,
+        sector: usize,
+        bytes: *mut u8,
+        bytes_length: usize,
+        key: *const u8,
+        key_length: usize,
+        answer: *mut u8,
+        answer_length: usize,
+    ) -> u32;
 }
 
 /// The digest of a whole message.
@@ -195,6 +262,21 @@ pub fn sha256_finish(state: &[u8], digest: &mut [u8]) -> u32 {
         gaffreel_sha256_finish(
             state.as_ptr(),
             state.len(),
+            digest.as_mut_ptr(),
+            digest.len(),
+        )
+    }
+}
+
+/// The HMAC of a message under a key.
+pub fn hmac_sha256(key: &[u8], message: &[u8], digest: &mut [u8]) -> u32 {
+    // SAFETY: each pointer and length are those of one slice, borrowed for the call, and `digest` overlaps nothing.
+    unsafe {
+        gaffreel_hmac_sha256(
+            key.as_ptr(),
+            key.len(),
+            message.as_ptr(),
+            message.len(),
             digest.as_mut_ptr(),
             digest.len(),
         )
@@ -457,6 +539,122 @@ pub fn volume_read(
             sector,
             bytes.as_mut_ptr(),
             bytes.len(),
+            answer.as_mut_ptr(),
+            answer.len(),
+        )
+    }
+}
+
+/// [`volume_format`] with a key.
+#[allow(clippy::too_many_arguments)] // those of the C interface
+pub fn volume_format_keyed(
+    volume: &mut [u8],
+    reserved: usize,
+    shift: usize,
+    width: usize,
+    sections: usize,
+    provided: usize,
+    key: &[u8],
+    answer: &mut [u8],
+) -> u32 {
+    // SAFETY: each pointer and length are those of one slice, borrowed for the call, and `volume` and `answer` overlap nothing.
+    unsafe {
+        gaffreel_volume_format_keyed(
+            volume.as_mut_ptr(),
+            volume.len(),
+            reserved,
+            shift,
+            width,
+            sections,
+            provided,
+            key.as_ptr(),
+            key.len(),
+            answer.as_mut_ptr(),
+            answer.len(),
+        )
+    }
+}
+
+/// [`volume_open`] with a key.
+pub fn volume_open_keyed(
+    volume: &[u8],
+    staging: &mut [u8],
+    reserved: usize,
+    key: &[u8],
+    state: &mut [u8],
+    answer: &mut [u8],
+) -> u32 {
+    // SAFETY: each pointer and length are those of one slice, borrowed for the call, and `staging`, `state` and `answer`
+    // overlap nothing.
+    unsafe {
+        gaffreel_volume_open_keyed(
+            volume.as_ptr(),
+            volume.len(),
+            staging.as_mut_ptr(),
+            staging.len(),
+            reserved,
+            key.as_ptr(),
+            key.len(),
+            state.as_mut_ptr(),
+            state.len(),
+            answer.as_mut_ptr(),
+            answer.len(),
+        )
+    }
+}
+
+/// [`volume_write`] with a key.
+pub fn volume_write_keyed(
+    state: &mut [u8],
+    staging: &mut [u8],
+    sector: usize,
+    bytes: &[u8],
+    key: &[u8],
+    answer: &mut [u8],
+) -> u32 {
+    // SAFETY: each pointer and length are those of one slice, borrowed for the call, and `state`, `staging` and `answer`
+    // overlap nothing.
+    unsafe {
+        gaffreel_volume_write_keyed(
+            state.as_mut_ptr(),
+            state.len(),
+            staging.as_mut_ptr(),
+            staging.len(),
+            sector,
+            bytes.as_ptr(),
+            bytes.len(),
+            key.as_ptr(),
+            key.len(),
+            answer.as_mut_ptr(),
+            answer.len(),
+        )
+    }
+}
+
+/// [`volume_read`] with a key.
+pub fn volume_read_keyed(
+    state: &[u8],
+    volume: &[u8],
+    staging: &[u8],
+    sector: usize,
+    bytes: &mut [u8],
+    key: &[u8],
+    answer: &mut [u8],
+) -> u32 {
+    // SAFETY: each pointer and length are those of one slice, borrowed for the call, and `bytes` and `answer` overlap nothing.
+    unsafe {
+        gaffreel_volume_read_keyed(
+            state.as_ptr(),
+            state.len(),
+            volume.as_ptr(),
+            volume.len(),
+            staging.as_ptr(),
+            staging.len(),
+            sector,
+            bytes.as_mut_ptr(),
+            bytes.len(),
+            key.as_ptr(),
+            key.len(),
             answer.as_mut_ptr(),
             answer.len(),
         )

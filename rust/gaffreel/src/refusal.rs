@@ -6,11 +6,12 @@ use std::fmt;
 /// A refusal.
 #[derive(Clone, Copy, Debug, PartialEq, Eq)]
 pub enum Refusal {
-    /// Digest and tree: a buffer has a wrong length, or the digest's limit of 2^61 - 1 bytes is passed.
+    /// Digest, HMAC and tree: a buffer has a wrong length, or the limit of a message is passed: 2^61 - 1 bytes, and 64 fewer
+    /// under a key.
     LengthOrLimit,
     /// Volume: a buffer has a wrong length, or the state is not sound.
     LengthOrState,
-    /// A number, or the salt's length, is out of range.
+    /// A number, or the length of the salt or of a key, is out of range.
     OutOfRange,
     /// Format: there is something in the superblock's place.
     SuperblockNotZero,
@@ -110,7 +111,7 @@ impl Refusal {
         }
     }
 
-    /// What an answer of digest and tree says: 0 is done, anything else the number of a refusal.
+    /// What an answer of digest, HMAC and tree says: 0 is done, anything else the number of a refusal.
     pub(crate) fn check(answer: u32) -> Result<(), Refusal> {
         match answer {
             0 => Ok(()),
@@ -164,7 +165,7 @@ impl fmt::Display for Refusal {
     fn fmt(&self, f: &mut fmt::Formatter<'_>) -> fmt::Result {
         match self {
             Refusal::LengthOrLimit => f.write_str(
-                "a buffer has a wrong length, or a message is longer than 2^61 - 1 bytes: \
+                "a buffer has a wrong length, or a message is longer than 2^61 - 1 bytes, 64 fewer under a key: \
                  lend buffers of the lengths that the call asks for",
             ),
             Refusal::LengthOrState => f.write_str(
@@ -173,7 +174,7 @@ impl fmt::Display for Refusal {
                  with the state that the last call on this volume left",
             ),
             Refusal::OutOfRange => f.write_str(
-                "a number or the salt's length is out of range: \
+                "a number, or the length of the salt or of a key, is out of range: \
                  keep to the limits that the call names",
             ),
             Refusal::SuperblockNotZero => f.write_str(

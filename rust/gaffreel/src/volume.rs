@@ -13,6 +13,12 @@
 //! Where the volume can be read in place and not stored to, as flash that is mapped for reading, [`next_store`] stands for
 //! [`step`]: it tells the step's store, and the volume's owner makes it.
 //!
+//! Without a key a tag is made by SHA-256, which anybody can compute. [`format_keyed`], [`open_keyed`], [`write_keyed`] and
+//! [`read_keyed`] make and test tags by HMAC with SHA-256 under a key of 1 to [`LONGEST_KEY`](crate::LONGEST_KEY) bytes, the same
+//! at every call of a volume; the other calls take none. Neither volume nor state keeps the key, or that there is one: a wrong one
+//! shows only where a tag is tested and differs, and a write under it is not noticed. [`Volume`] keeps the key that it is opened
+//! with, so that no other can be meant later.
+//!
 //! ```
 //! use gaffreel::volume::{self, Layout, SECTOR_LENGTH};
 //!
@@ -164,10 +170,24 @@ pub fn format(volume: &mut [u8], layout: &Layout) -> Result<(), Refusal> {
             answer,
         )
     });
-    match reply.number {
-        0 => Ok(()),
-        refused => Err(Refusal::of_format(refused, reply.values())),
-    }
+    reply.formatted()
+}
+
+/// [`format`](fn@format) with a key.
+pub fn format_keyed(volume: &mut [u8], layout: &Layout, key: &[u8]) -> Result<(), Refusal> {
+    let reply = Reply::of(|answer| {
+        ffi::volume_format_keyed(
+            volume,
+            size(layout.reserved),
+            size(layout.log2_run),
+            size(layout.tag_size),
+            size(layout.sections),
+            size(layout.provided),
+            key,
+            answer,
+        )
+    });
+    reply.formatted()
 }
 
 /// The parameters of a volume that was formatted with `reserved` reserved sectors, 0 to 64, and the length that staging
@@ -187,11 +207,21 @@ pub fn open(volume: &[u8], reserved: u64, staging: &mut [u8]) -> Result<Opened, 
     let mut state = [0; STATE_LENGTH];
     let reply =
         Reply::of(|answer| ffi::volume_open(volume, staging, size(reserved), &mut state, answer));
-    let [stores_to_come, ..] = reply.done()?;
-    Ok(Opened {
-        state: left(state),
-        stores_to_come,
-    })
+    reply.opened(state)
+}
+
+/// [`open`] with a key.
+pub fn open_keyed(
+    volume: &[u8],
+    reserved: u64,
+    staging: &mut [u8],
+    key: &[u8],
+) -> Result<Opened, Refusal> {
+    let mut state = [0; STATE_LENGTH];
+    let reply = Reply::of(|answer| {
+        ffi::volume_open_keyed(volume, staging, size(reserved), key, &mut state, answer)
+    });
+    reply.opened(state)
 }
 
 /// Adds an entry to the batch in staging, also when the sector is already there. `bytes` is one sector.
@@ -203,6 +233,21 @@ pub fn write(
 ) -> Result<(), Refusal> {
     let reply = Reply::on(state, |state, answer| {
         ffi::volume_write(state, staging, size(sector), bytes, answer)
+    });
+    reply.done()?;
+    Ok(())
+}
+
+/// [`write()`] with a key.
+pub fn write_keyed(
+    state: &mut State,
+    staging: &mut [u8],
+    sector: u64,
+    bytes: &[u8],
+    key: &[u8],
+) -> Result<(), Refusal> {
+    let reply = Reply::on(state, |state, answer| {
+        ffi::volume_write_keyed(state, staging, size(sector), bytes, key, answer)
     });
     reply.done()?;
     Ok(())
@@ -292,6 +337,23 @@ pub fn read(
     Ok(())
 }
 
+/// [`read`] with a key.
+pub fn read_keyed(
+    state: &State,
+    volume: &[u8],
+    staging: &[u8],
+    sector: u64,
+    out: &mut [u8],
+    key: &[u8],
+) -> Result<(), Refusal> {
+    let state = state.to_bytes();
+    let reply = Reply::of(|answer| {
+        ffi::volume_read_keyed(&state, volume, staging, size(sector), out, key, answer)
+    });
+    reply.done()?;
+    Ok(())
+}
+
 /// What a step did, as the C interface has it.
 const IDLE: u64 = 0;
 const STORED: u64 = 1;
@@ -337,6 +399,23 @@ impl Reply {
     fn values(&self) -> &[u64] {
         let [count, values @ ..] = &self.numbers;
         &values[..size(*count)]
+    }
+
+    /// How a format ended.
+    fn formatted(&self) -> Result<(), Refusal> {
+        match self.number {
+            0 => Ok(()),
+            refused => Err(Refusal::of_format(refused, self.values())),
+        }
+    }
+
+    /// What an open gives that wrote to this state's buffer.
+    fn opened(&self, state: [u8; STATE_LENGTH]) -> Result<Opened, Refusal> {
+        let [stores_to_come, ..] = self.done()?;
+        Ok(Opened {
+            state: left(state),
+            stores_to_come,
+        })
     }
 
     /// What a step did and says.

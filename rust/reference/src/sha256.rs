@@ -6,7 +6,8 @@ pub const LIMIT: u64 = (1 << 61) - 1;
 /// A digest's length in bytes.
 pub const DIGEST_LENGTH: usize = 32;
 
-const BLOCK_LENGTH: usize = 64;
+/// A block's length in bytes.
+pub const BLOCK_LENGTH: usize = 64;
 
 /// In a message's last block the bytes from here on hold the message's length in bits.
 const LENGTH_PLACE: usize = 56;

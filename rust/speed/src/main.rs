@@ -14,10 +14,12 @@ fn main() {
     measure::heading();
     digest_of_one_piece();
     digests_of_sectors();
+    hmacs_of_sectors();
     tree_built();
     tree_verified();
     volume::journal_recovered();
     volume::sectors_checked();
+    volume::sectors_checked_with_a_key();
     volume::recovery_by_sections();
 }
 
@@ -35,14 +37,23 @@ fn digest_of_one_piece() {
     assert_eq!(proved, rust);
 }
 
-/// The digests of 32 MiB of sectors, as their tags are made: each sector's number, 8 bytes, and its 512 bytes.
-fn digests_of_sectors() {
-    const MESSAGE_LENGTH: usize = 8 + 512;
+/// What the tag of a sector is made of: its number, 8 bytes, and its 512 bytes.
+const MESSAGE_LENGTH: usize = 8 + 512;
+
+/// The messages of 32 MiB of sectors, one behind the other.
+fn messages_of_sectors() -> Vec<u8> {
     let count = 32 * MIB / 512;
     let mut messages = pattern(count * MESSAGE_LENGTH);
     for (sector, message) in messages.chunks_exact_mut(MESSAGE_LENGTH).enumerate() {
         message[..8].copy_from_slice(&(sector as u64).to_le_bytes());
     }
+    messages
+}
+
+/// The digests of 32 MiB of sectors, as their tags are made.
+fn digests_of_sectors() {
+    let messages = messages_of_sectors();
+    let count = messages.len() / MESSAGE_LENGTH;
     // Not zero, so that the pages are touched.
     let mut proved = vec![[1; 32]; count];
     let mut rust = vec![[1; 32]; count];
@@ -57,6 +68,34 @@ fn digests_of_sectors() {
         || {
             for (message, digest) in messages.chunks_exact(MESSAGE_LENGTH).zip(&mut rust) {
                 *digest = reference::sha256::digest(black_box(message)).expect("within the limit");
+            }
+        },
+    );
+    assert_eq!(proved, rust);
+}
+
+/// The HMACs of 32 MiB of sectors, all under one key. The C interface takes the key with each message, and so computes the states behind
+/// its two pads each time; so does Rust here, by the same call. What keeping them gains is in the rows of the volume.
+fn hmacs_of_sectors() {
+    let messages = messages_of_sectors();
+    let count = messages.len() / MESSAGE_LENGTH;
+    let key = pattern(32);
+    // Not zero, so that the pages are touched.
+    let mut proved = vec![[1; 32]; count];
+    let mut rust = vec![[1; 32]; count];
+    compare(
+        "HMAC from the key on, 65536 messages of 520 bytes",
+        messages.len(),
+        || {
+            for (message, mac) in messages.chunks_exact(MESSAGE_LENGTH).zip(&mut proved) {
+                *mac = gaffreel::hmac_sha256(black_box(&key), black_box(message))
+                    .expect("within the limits");
+            }
+        },
+        || {
+            for (message, mac) in messages.chunks_exact(MESSAGE_LENGTH).zip(&mut rust) {
+                *mac = reference::hmac::hmac(black_box(&key), black_box(message))
+                    .expect("within the limits");
             }
         },
     );

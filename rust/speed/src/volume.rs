@@ -2,9 +2,9 @@
 
 use crate::measure::{best_of_rounds, compare, milliseconds, pattern, ratio, time};
 use gaffreel::Refusal;
-use reference::volume::{digest_of_sector, Geometry, Layout, Phase, VOLUME_LIMIT};
+use reference::volume::{Geometry, Layout, Phase, TagRule, VOLUME_LIMIT};
 use std::hint::black_box;
-use volumes::{formatted, geometry, put_section, section, Entry};
+use volumes::{formatted, formatted_by, geometry, put_section, section, Entry};
 
 /// The layout of as many sectors as a volume can provide, in two runs.
 fn greatest_layout(tag_size: u64, sections: u64) -> Layout {
@@ -123,8 +123,13 @@ impl Side<gaffreel::volume::State> {
 
 impl Side<reference::volume::State> {
     fn open(&mut self) {
-        let opened = reference::volume::open(black_box(&self.volume), 0, &mut self.staging)
-            .expect("the journal is good");
+        let opened = reference::volume::open(
+            black_box(&self.volume),
+            0,
+            &mut self.staging,
+            TagRule::Digest,
+        )
+        .expect("the journal is good");
         self.opened = Some(opened.state);
         self.stores_to_come = opened.stores_to_come;
     }
@@ -159,15 +164,26 @@ pub fn journal_recovered() {
 
 /// Every sector of a volume of 32 MiB read, and its tag computed; a few don't fit.
 pub fn sectors_checked() {
+    checked_by("61344 sectors checked", TagRule::Digest);
+}
+
+/// The same with a key. Rust keeps the states behind the key's pads for the whole check; a read of the C interface takes the key anew,
+/// and has two blocks more to compress beside the ten of the sector.
+pub fn sectors_checked_with_a_key() {
+    let key = pattern(32);
+    checked_by("61344 sectors checked with a key", TagRule::Hmac(&key));
+}
+
+fn checked_by(name: &str, rule: TagRule) {
     let layout = greatest_layout(32, 1);
     assert_eq!(layout.provided, 61_344);
     let geometry = geometry(&layout);
-    let mut volume = formatted(&layout, 0);
+    let mut volume = formatted_by(rule, &layout, 0);
     let data = pattern(geometry.provided * 512);
     let (sectors, _) = data.as_chunks();
     for (number, bytes) in (0..).zip(sectors) {
         let home = geometry.home(number).expect("it is provided");
-        let mut tag = digest_of_sector(number, bytes);
+        let mut tag = rule.of_sector(number, bytes).expect("the key is in range");
         tag[31] ^= u8::from(number % 10_000 == 9_999);
         volume[home.data * 512..][..512].copy_from_slice(bytes);
         volume[home.tag..][..32].copy_from_slice(&tag);
@@ -176,11 +192,11 @@ pub fn sectors_checked() {
     let mut proved = vec![];
     let mut rust = vec![];
     compare(
-        "61344 sectors checked",
+        name,
         data.len(),
-        || proved = bad_sectors(black_box(&volume), &mut staging),
+        || proved = bad_sectors(black_box(&volume), &mut staging, rule),
         || {
-            rust = reference::volume::check(black_box(&volume), 0)
+            rust = reference::volume::check(black_box(&volume), 0, rule)
                 .expect("the volume is good")
                 .bad;
         },
@@ -190,12 +206,20 @@ pub fn sectors_checked() {
 }
 
 /// The sectors that cannot be read, since their tags don't fit.
-fn bad_sectors(volume: &[u8], staging: &mut [u8]) -> Vec<u64> {
-    let opened = gaffreel::volume::open(volume, 0, staging).expect("the volume is good");
+fn bad_sectors(volume: &[u8], staging: &mut [u8], rule: TagRule) -> Vec<u64> {
+    use gaffreel::volume::{open, open_keyed, read, read_keyed};
+    let opened = match rule {
+        TagRule::Digest => open(volume, 0, staging),
+        TagRule::Hmac(key) => open_keyed(volume, 0, staging, key),
+    };
+    let state = opened.expect("the volume is good").state;
     let mut out = [0; 512];
-    (0..opened.state.layout.provided)
+    (0..state.layout.provided)
         .filter(|&sector| {
-            let answer = gaffreel::volume::read(&opened.state, volume, staging, sector, &mut out);
+            let answer = match rule {
+                TagRule::Digest => read(&state, volume, staging, sector, &mut out),
+                TagRule::Hmac(key) => read_keyed(&state, volume, staging, sector, &mut out, key),
+            };
             assert!(answer.is_ok() || answer == Err(Refusal::Tag { sector }));
             answer.is_err()
         })

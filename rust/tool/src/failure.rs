@@ -89,15 +89,10 @@ impl Failure {
         Failure::refused_as(path, refusal, meaning)
     }
 
-    /// The same about one logical sector.
-    pub fn refused_sector(path: &Path, refusal: Refusal, sector: u64) -> Failure {
-        match refusal {
-            Refusal::Sector => {
-                let meaning = format!("sector {sector}: {refusal}");
-                Failure::refused_as(path, refusal, meaning)
-            }
-            other => Failure::refused(path, other),
-        }
+    /// A logical sector that the volume does not have.
+    pub fn no_sector(path: &Path, sector: u64) -> Failure {
+        let refusal = Refusal::Sector;
+        Failure::refused_as(path, refusal, format!("sector {sector}: {refusal}"))
     }
 
     /// A refusal with a meaning of its own.

@@ -1,6 +1,7 @@
 //! The journal of a volume, read from its bytes (document 01, "A journal section").
 
 use crate::layout::{Sizes, ENTRY_HEAD_LENGTH, METADATA_SECTORS};
+use crate::volume::Tags;
 use gaffreel::volume::Sector;
 
 /// The logical sector of an unused entry.
@@ -55,11 +56,9 @@ pub struct Entry {
 
 impl Entry {
     /// Whether the tag fits the data, if that was reached.
-    pub fn fits(&self) -> Option<bool> {
+    pub fn fits(&self, tags: &Tags) -> Option<bool> {
         let data = self.data.as_ref()?;
-        let message = [&self.sector.to_le_bytes()[..], data].concat();
-        let digest = gaffreel::sha256(&message).expect("520 bytes are within the limit");
-        Some(digest[..self.tag.len()] == *self.tag)
+        Some(tags.fit(&self.tag, self.sector, data))
     }
 }
 

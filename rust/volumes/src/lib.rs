@@ -1,9 +1,10 @@
 //! Volumes made byte by byte and at random, for tests and times.
 
 pub mod any;
+pub mod keyed;
 pub mod kinds;
 
-use reference::volume::{digest_of_sector, Geometry, Layout};
+use reference::volume::{digest_of_sector, Geometry, Layout, TagRule};
 
 /// The logical sector of an unused entry.
 pub const UNUSED: u64 = u64::MAX;
@@ -43,13 +44,18 @@ pub fn geometry(layout: &Layout) -> Geometry {
     layout.geometry().expect("the layout is in range")
 }
 
-/// A volume just formatted. The reserved sectors and `behind` sectors behind the last run hold bytes of their own.
+/// A volume just formatted, without a key. The reserved sectors and `behind` sectors behind the last run hold bytes of their own.
 pub fn formatted(layout: &Layout, behind: usize) -> Vec<u8> {
+    formatted_by(TagRule::Digest, layout, behind)
+}
+
+/// The same by any rule.
+pub fn formatted_by(rule: TagRule, layout: &Layout, behind: usize) -> Vec<u8> {
     let geometry = geometry(layout);
     let mut volume = vec![0xa5; (geometry.sectors + behind) * 512];
     let start = geometry.reserved * 512;
     volume[start..start + 8 * 512].fill(0);
-    reference::volume::format(&mut volume, layout).expect("format is taken");
+    reference::volume::format(&mut volume, layout, rule).expect("format is taken");
     volume
 }
 

@@ -2,6 +2,7 @@
 
 use super::{Advanced, Flushed, Layout, Said, State, Stepped, Stopped, SECTOR_LENGTH};
 use crate::refusal::Refusal;
+use std::fmt;
 
 /// A sector's bytes.
 pub type Sector = [u8; SECTOR_LENGTH];
@@ -28,6 +29,31 @@ pub type Sector = [u8; SECTOR_LENGTH];
 /// # Ok(())
 /// # }
 /// ```
+///
+/// A volume with a key is given it once, where it is opened; reads and writes then take no other.
+///
+/// ```
+/// use gaffreel::volume::{self, Layout, Volume, SECTOR_LENGTH};
+/// use gaffreel::Refusal;
+///
+/// # fn main() -> Result<(), Refusal> {
+/// # let layout = Layout { reserved: 0, log2_run: 4, tag_size: 32, sections: 1, provided: 16 };
+/// let mut bytes = vec![0; 120 * SECTOR_LENGTH];
+/// volume::format_keyed(&mut bytes, &layout, b"of the cabinet")?;
+///
+/// let mut stock = Volume::recovered_keyed(bytes, 0, b"of the cabinet")?;
+/// stock.write(5, &[1; SECTOR_LENGTH])?;
+/// stock.flush()?;
+/// stock.advance(u64::MAX)?;
+/// assert_eq!(stock.read(5)?, [1; SECTOR_LENGTH]);
+///
+/// // Without the key, the batch in the journal is refused.
+/// let (section, entry) = (0, 0);
+/// let opened = Volume::open(stock.into_bytes(), 0);
+/// assert_eq!(opened.err(), Some(Refusal::JournalTag { section, entry }));
+/// # Ok(())
+/// # }
+/// ```
 #[derive(Clone, Debug)]
 pub struct Volume<B> {
     bytes: B,
@@ -35,6 +61,25 @@ pub struct Volume<B> {
     state: State,
     stores_to_come: u64,
     due: Option<Due>,
+    tags: Tags,
+}
+
+/// What makes and tests the volume's tags, settled by open for all calls. A key that came with each call could be another, or be left
+/// out: a write would not notice, and its sectors would be refused under the right key afterwards.
+#[derive(Clone)]
+enum Tags {
+    Digest,
+    Hmac(Vec<u8>),
+}
+
+/// A key is a secret: not even its length is shown.
+impl fmt::Debug for Tags {
+    fn fmt(&self, f: &mut fmt::Formatter<'_>) -> fmt::Result {
+        f.write_str(match self {
+            Tags::Digest => "Digest",
+            Tags::Hmac(_) => "Hmac(..)",
+        })
+    }
 }
 
 /// A store that is left to the bytes' owner and not made yet. State and staging are those after it.
@@ -47,14 +92,30 @@ struct Due {
 impl<B: AsRef<[u8]>> Volume<B> {
     /// Opens a volume that was formatted with `reserved` reserved sectors. Nothing is stored on it.
     pub fn open(bytes: B, reserved: u64) -> Result<Volume<B>, Refusal> {
-        let mut staging = vec![0; super::query(bytes.as_ref(), reserved)?.staging_length];
-        let opened = super::open(bytes.as_ref(), reserved, &mut staging)?;
+        Volume::open_by(bytes, reserved, Tags::Digest)
+    }
+
+    /// The same with a key of 1 to [`LONGEST_KEY`](crate::LONGEST_KEY) bytes, the one that the volume was formatted with. It is
+    /// kept in memory, for each write and read, until the volume is dropped, and is not wiped then. Where there is nothing to replay any
+    /// key is taken: a read of a sector that is known to be good tells the right one.
+    pub fn open_keyed(bytes: B, reserved: u64, key: &[u8]) -> Result<Volume<B>, Refusal> {
+        Volume::open_by(bytes, reserved, Tags::Hmac(key.to_vec()))
+    }
+
+    fn open_by(bytes: B, reserved: u64, tags: Tags) -> Result<Volume<B>, Refusal> {
+        let volume = bytes.as_ref();
+        let mut staging = vec![0; staging_length(volume, reserved)];
+        let opened = match &tags {
+            Tags::Digest => super::open(volume, reserved, &mut staging)?,
+            Tags::Hmac(key) => super::open_keyed(volume, reserved, &mut staging, key)?,
+        };
         Ok(Volume {
             bytes,
             staging,
             state: opened.state,
             stores_to_come: opened.stores_to_come,
             due: None,
+            tags,
         })
     }
 
@@ -89,10 +150,14 @@ impl<B: AsRef<[u8]>> Volume<B> {
         self.bytes
     }
 
-    /// Adds a sector to the batch: [`write()`](super::write()).
+    /// Adds a sector to the batch: [`write()`](super::write()), with the key that the volume was opened with, if there is one.
     pub fn write(&mut self, sector: u64, bytes: &Sector) -> Result<(), Refusal> {
         self.nothing_due()?;
-        super::write(&mut self.state, &mut self.staging, sector, bytes)
+        let (state, staging) = (&mut self.state, &mut self.staging);
+        match &self.tags {
+            Tags::Digest => super::write(state, staging, sector, bytes),
+            Tags::Hmac(key) => super::write_keyed(state, staging, sector, bytes, key),
+        }
     }
 
     /// Begins to commit the batch: [`flush`](super::flush).
@@ -101,11 +166,15 @@ impl<B: AsRef<[u8]>> Volume<B> {
         super::flush(&mut self.state)
     }
 
-    /// The newest data of a sector: [`read`](super::read).
+    /// The newest data of a sector: [`read`](super::read), with the key that the volume was opened with, if there is one.
     pub fn read(&self, sector: u64) -> Result<Sector, Refusal> {
         self.nothing_due()?;
         let mut out = [0; SECTOR_LENGTH];
-        super::read(&self.state, self.bytes(), &self.staging, sector, &mut out)?;
+        let (state, bytes, staging) = (&self.state, self.bytes(), &self.staging);
+        match &self.tags {
+            Tags::Digest => super::read(state, bytes, staging, sector, &mut out)?,
+            Tags::Hmac(key) => super::read_keyed(state, bytes, staging, sector, &mut out, key)?,
+        }
         Ok(out)
     }
 
@@ -197,9 +266,17 @@ impl<B: AsRef<[u8]>> Volume<B> {
 impl<B: AsRef<[u8]> + AsMut<[u8]>> Volume<B> {
     /// Opens a volume and finishes its recovery.
     pub fn recovered(bytes: B, reserved: u64) -> Result<Volume<B>, Refusal> {
-        let mut volume = Volume::open(bytes, reserved)?;
-        volume.advance(u64::MAX)?;
-        Ok(volume)
+        Volume::open(bytes, reserved)?.recover()
+    }
+
+    /// The same with a key: [`open_keyed`](Volume::open_keyed).
+    pub fn recovered_keyed(bytes: B, reserved: u64, key: &[u8]) -> Result<Volume<B>, Refusal> {
+        Volume::open_keyed(bytes, reserved, key)?.recover()
+    }
+
+    fn recover(mut self) -> Result<Volume<B>, Refusal> {
+        self.advance(u64::MAX)?;
+        Ok(self)
     }
 
     /// Makes the store that comes next: [`step`](super::step).
@@ -222,4 +299,9 @@ impl<B: AsRef<[u8]> + AsMut<[u8]>> Volume<B> {
             steps,
         )
     }
+}
+
+/// The length that staging must have; none where a query is refused, as open then is for the same reason or an earlier one.
+fn staging_length(volume: &[u8], reserved: u64) -> usize {
+    super::query(volume, reserved).map_or(0, |queried| queried.staging_length)
 }

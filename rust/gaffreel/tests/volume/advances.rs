@@ -6,7 +6,7 @@ use crate::loans::{Buffers, Loans, DONE};
 use gaffreel::ffi;
 use gaffreel::volume::STATE_LENGTH;
 use random::{cases, count_compared, Random};
-use reference::volume::{self, Half, Layout, Phase, State};
+use reference::volume::{self, Half, Layout, Phase, State, TagRule};
 use volumes::any::{any_layout, any_section, small_layout, with_journal};
 use volumes::{empty_staging, formatted, geometry, section, Entry};
 
@@ -191,7 +191,8 @@ fn whole_recoveries() {
         let staging = empty_staging(&geometry(&layout));
         let volume = with_journal(random, &layout);
         let mut expected = volume.clone();
-        let Ok(opened) = volume::open(&volume, layout.reserved, &mut staging.clone()) else {
+        let rule = TagRule::Digest;
+        let Ok(opened) = volume::open(&volume, layout.reserved, &mut staging.clone(), rule) else {
             return;
         };
         let mut state = opened.state;

@@ -2,9 +2,10 @@
 
 use crate::loans::{Loans, DONE};
 use random::{cases, Lent, Random};
-use reference::volume::{Layout, Phase, State};
+use reference::volume::{Layout, Phase, State, TagRule};
 use volumes::any::{any_layout, any_number, any_section, any_staging, any_state, any_volume};
 use volumes::any::{small_layout, with_journal};
+use volumes::keyed::{any_key, other_key, retag, wrong_key_length};
 use volumes::{formatted, geometry};
 
 /// A volume of any kind, a state of any kind, staging for it, a sector's bytes of a length that is seldom wrong.
@@ -146,5 +147,61 @@ fn filling_volumes() {
         loans.flush();
         loans.read(random.number() % layout.provided);
         loans.advance(u64::MAX);
+    });
+}
+
+/// The key that tags were made with, another, one that no call takes, or none.
+fn any_key_lent(random: &mut Random, loans: &mut Loans, key: &[u8]) {
+    let key = match random.number() % 8 {
+        0 => Some(other_key(random, key)),
+        1 => Some(vec![5; wrong_key_length(random)]),
+        2 => None,
+        _ => Some(key.to_vec()),
+    };
+    loans.put_key(random, key.as_deref());
+}
+
+/// Puts the tags that a key gives in the place of those that fit without one.
+fn rekey(loans: &mut Loans, layout: &Layout, key: &[u8]) {
+    let mut volume = loans.lent().volume.bytes().to_vec();
+    retag(&mut volume, layout, TagRule::Hmac(key));
+    loans.put(|lent| &mut lent.volume, 0, &volume);
+}
+
+#[test]
+fn any_call_with_a_key() {
+    cases(5_000, |random| {
+        let layout = any_layout(random);
+        let mut loans = any_loans(random, &layout);
+        let key = any_key(random);
+        if layout.provided < 100 {
+            rekey(&mut loans, &layout, &key);
+        }
+        any_key_lent(random, &mut loans, &key);
+        loans.clone().format(&layout);
+        let reserved = any_reserved(random, &layout);
+        loans.clone().open(reserved);
+        let sector = any_sector(random, &layout);
+        loans.clone().write(sector);
+        loans.clone().read(sector);
+    });
+}
+
+/// The key is another now and then.
+#[test]
+fn calls_in_a_row_with_a_key() {
+    cases(500, |random| {
+        let layout = small_layout(random);
+        let volume = with_journal(random, &layout);
+        let staging = random.bytes(geometry(&layout).staging_length());
+        let mut loans = Loans::new(random, &volume, &staging);
+        let key = any_key(random);
+        rekey(&mut loans, &layout, &key);
+        loans.put_key(random, Some(&key));
+        loans.open(layout.reserved);
+        for _ in 0..30 {
+            any_key_lent(random, &mut loans, &key);
+            one_call(random, &mut loans, &layout);
+        }
     });
 }

@@ -7,6 +7,7 @@ use gaffreel::volume::{State, MOST_SECTORS, STATE_LENGTH};
 use random::{cases, Lent, Random};
 use reference::volume::{self, Half, Layout, Phase};
 use volumes::any::any_number;
+use volumes::keyed::{any_key, wrong_key_length};
 use volumes::{empty_staging, formatted, geometry, put_section, section, Entry};
 
 const LAYOUT: Layout = Layout {
@@ -42,8 +43,19 @@ pub fn sound(random: &mut Random) -> Loans {
     loans
 }
 
-/// Each call, each on loans of its own.
+/// Each call, each on loans of its own; format, open, write and read also with a key, which may have a wrong length too.
 fn each_call(random: &mut Random, loans: &Loans) {
+    each_call_as_it_is(random, loans);
+    let mut loans = loans.clone();
+    let key = match random.number() % 3 {
+        0 => vec![5; wrong_key_length(random)],
+        _ => any_key(random),
+    };
+    loans.put_key(random, Some(&key));
+    each_call_as_it_is(random, &loans);
+}
+
+fn each_call_as_it_is(random: &mut Random, loans: &Loans) {
     let sector = random.number() % 6;
     loans.clone().query(LAYOUT.reserved);
     loans.clone().open(LAYOUT.reserved);

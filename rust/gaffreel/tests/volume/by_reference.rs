@@ -2,7 +2,9 @@
 
 use crate::loans::DONE;
 use gaffreel::volume::{ANSWER_LENGTH, LAYOUT_LENGTH, STATE_LENGTH};
-use reference::volume::{self, Flushed, Half, Layout, Phase, Refusal, Said, State, Stepped};
+use reference::volume::{
+    self, Flushed, Half, Layout, Phase, Refusal, Said, State, Stepped, TagRule,
+};
 
 const WRONG_LENGTH: u32 = 1;
 
@@ -38,17 +40,41 @@ pub fn volume_format(
     provided: usize,
     answer: &mut [u8],
 ) -> u32 {
-    if answer.len() != ANSWER_LENGTH {
-        return WRONG_LENGTH;
-    }
-    let layout = Layout {
+    let layout = layout(reserved, shift, width, sections, provided);
+    format_by(TagRule::Digest, volume, &layout, answer)
+}
+
+#[allow(clippy::too_many_arguments)] // those of the C interface
+pub fn volume_format_keyed(
+    volume: &mut [u8],
+    reserved: usize,
+    shift: usize,
+    width: usize,
+    sections: usize,
+    provided: usize,
+    key: &[u8],
+    answer: &mut [u8],
+) -> u32 {
+    let layout = layout(reserved, shift, width, sections, provided);
+    format_by(TagRule::Hmac(key), volume, &layout, answer)
+}
+
+fn layout(reserved: usize, shift: usize, width: usize, sections: usize, provided: usize) -> Layout {
+    Layout {
         reserved: reserved as u64,
         log2_run: shift as u64,
         tag_size: width as u64,
         sections: sections as u64,
         provided: provided as u64,
-    };
-    reply(answer, volume::format(volume, &layout).map(|()| [0; 5]))
+    }
+}
+
+fn format_by(rule: TagRule, volume: &mut [u8], layout: &Layout, answer: &mut [u8]) -> u32 {
+    if answer.len() != ANSWER_LENGTH {
+        return WRONG_LENGTH;
+    }
+    let formatted = volume::format(volume, layout, rule);
+    reply(answer, formatted.map(|()| [0; 5]))
 }
 
 pub fn volume_query(volume: &[u8], reserved: usize, layout: &mut [u8], answer: &mut [u8]) -> u32 {
@@ -72,13 +98,35 @@ pub fn volume_open(
     state: &mut [u8],
     answer: &mut [u8],
 ) -> u32 {
+    open_by(TagRule::Digest, volume, staging, reserved, state, answer)
+}
+
+pub fn volume_open_keyed(
+    volume: &[u8],
+    staging: &mut [u8],
+    reserved: usize,
+    key: &[u8],
+    state: &mut [u8],
+    answer: &mut [u8],
+) -> u32 {
+    open_by(TagRule::Hmac(key), volume, staging, reserved, state, answer)
+}
+
+fn open_by(
+    rule: TagRule,
+    volume: &[u8],
+    staging: &mut [u8],
+    reserved: usize,
+    state: &mut [u8],
+    answer: &mut [u8],
+) -> u32 {
     if answer.len() != ANSWER_LENGTH {
         return WRONG_LENGTH;
     }
     if state.len() != STATE_LENGTH {
         return reply(answer, Err(Refusal::LengthOrState));
     }
-    let opened = volume::open(volume, reserved as u64, staging).map(|opened| {
+    let opened = volume::open(volume, reserved as u64, staging, rule).map(|opened| {
         put_state(state, &opened.state);
         [opened.stores_to_come, 0, 0, 0, 0]
     });
@@ -93,7 +141,20 @@ pub fn volume_write(
     answer: &mut [u8],
 ) -> u32 {
     on(state, answer, |state| {
-        volume::write(state, staging, sector as u64, bytes).map(|()| [0; 5])
+        volume::write(state, staging, sector as u64, bytes, TagRule::Digest).map(|()| [0; 5])
+    })
+}
+
+pub fn volume_write_keyed(
+    state: &mut [u8],
+    staging: &mut [u8],
+    sector: usize,
+    bytes: &[u8],
+    key: &[u8],
+    answer: &mut [u8],
+) -> u32 {
+    on(state, answer, |state| {
+        volume::write(state, staging, sector as u64, bytes, TagRule::Hmac(key)).map(|()| [0; 5])
     })
 }
 
@@ -162,7 +223,23 @@ pub fn volume_read(
     answer: &mut [u8],
 ) -> u32 {
     on(&mut state.to_vec(), answer, |state| {
-        volume::read(state, volume, staging, sector as u64, bytes).map(|()| [0; 5])
+        let rule = TagRule::Digest;
+        volume::read(state, volume, staging, sector as u64, bytes, rule).map(|()| [0; 5])
+    })
+}
+
+pub fn volume_read_keyed(
+    state: &[u8],
+    volume: &[u8],
+    staging: &[u8],
+    sector: usize,
+    bytes: &mut [u8],
+    key: &[u8],
+    answer: &mut [u8],
+) -> u32 {
+    on(&mut state.to_vec(), answer, |state| {
+        let rule = TagRule::Hmac(key);
+        volume::read(state, volume, staging, sector as u64, bytes, rule).map(|()| [0; 5])
     })
 }
 

@@ -1,7 +1,7 @@
 //! The functions of `gaffreel::ffi` by the safe wrapper; none where a buffer holds what it cannot be given.
 
 use crate::by_reference::put_numbers;
-use gaffreel::volume::{self, Flushed, Layout, Said, State, Stepped};
+use gaffreel::volume::{self, Flushed, Layout, Opened, Said, State, Stepped};
 use gaffreel::volume::{ANSWER_LENGTH, LAYOUT_LENGTH, STATE_LENGTH};
 use gaffreel::Refusal;
 
@@ -14,17 +14,39 @@ pub fn volume_format(
     provided: usize,
     answer: &mut [u8],
 ) -> Option<u32> {
-    let layout = Layout {
+    let answer = answer_in(answer)?;
+    let layout = layout(reserved, shift, width, sections, provided);
+    let formatted = volume::format(volume, &layout);
+    assert_ne!(formatted, Err(Refusal::SuperblockZero));
+    Some(reply(answer, formatted.map(|()| [0; 5])))
+}
+
+#[allow(clippy::too_many_arguments)] // those of the C interface
+pub fn volume_format_keyed(
+    volume: &mut [u8],
+    reserved: usize,
+    shift: usize,
+    width: usize,
+    sections: usize,
+    provided: usize,
+    key: &[u8],
+    answer: &mut [u8],
+) -> Option<u32> {
+    let answer = answer_in(answer)?;
+    let layout = layout(reserved, shift, width, sections, provided);
+    let formatted = volume::format_keyed(volume, &layout, key);
+    assert_ne!(formatted, Err(Refusal::SuperblockZero));
+    Some(reply(answer, formatted.map(|()| [0; 5])))
+}
+
+fn layout(reserved: usize, shift: usize, width: usize, sections: usize, provided: usize) -> Layout {
+    Layout {
         reserved: reserved as u64,
         log2_run: shift as u64,
         tag_size: width as u64,
         sections: sections as u64,
         provided: provided as u64,
-    };
-    let answer = answer_in(answer)?;
-    let formatted = volume::format(volume, &layout);
-    assert_ne!(formatted, Err(Refusal::SuperblockZero));
-    Some(reply(answer, formatted.map(|()| [0; 5])))
+    }
 }
 
 pub fn volume_query(
@@ -54,12 +76,33 @@ pub fn volume_open(
     let answer = answer_in(answer)?;
     let state: &mut [u8; STATE_LENGTH] = state.try_into().ok()?;
     let opened = volume::open(volume, reserved as u64, staging);
+    Some(reply(answer, opened_numbers(opened, state)))
+}
+
+pub fn volume_open_keyed(
+    volume: &[u8],
+    staging: &mut [u8],
+    reserved: usize,
+    key: &[u8],
+    state: &mut [u8],
+    answer: &mut [u8],
+) -> Option<u32> {
+    let answer = answer_in(answer)?;
+    let state: &mut [u8; STATE_LENGTH] = state.try_into().ok()?;
+    let opened = volume::open_keyed(volume, reserved as u64, staging, key);
+    Some(reply(answer, opened_numbers(opened, state)))
+}
+
+/// What an open leaves in the answer's buffer; its state goes to the state's.
+fn opened_numbers(
+    opened: Result<Opened, Refusal>,
+    state: &mut [u8; STATE_LENGTH],
+) -> Result<[u64; 5], Refusal> {
     assert_ne!(opened, Err(Refusal::SuperblockNotZero));
-    let numbers = opened.map(|opened| {
+    opened.map(|opened| {
         *state = opened.state.to_bytes();
         [opened.stores_to_come, 0, 0, 0, 0]
-    });
-    Some(reply(answer, numbers))
+    })
 }
 
 pub fn volume_write(
@@ -74,6 +117,21 @@ pub fn volume_write(
         volume::write(state, staging, sector as u64, bytes)
     });
     Some(reply(answer, written?.map(|()| [0; 5])))
+}
+
+pub fn volume_write_keyed(
+    state: &mut [u8],
+    staging: &mut [u8],
+    sector: usize,
+    bytes: &[u8],
+    key: &[u8],
+    answer: &mut [u8],
+) -> Option<u32> {
+    let answer = answer_in(answer)?;
+    let written = on(state, |state| {
+        volume::write_keyed(state, staging, sector as u64, bytes, key)
+    })?;
+    Some(reply(answer, written.map(|()| [0; 5])))
 }
 
 pub fn volume_flush(state: &mut [u8], answer: &mut [u8]) -> Option<u32> {
@@ -144,6 +202,22 @@ pub fn volume_read(
         volume::read(state, volume, staging, sector as u64, bytes)
     });
     Some(reply(answer, read?.map(|()| [0; 5])))
+}
+
+pub fn volume_read_keyed(
+    state: &[u8],
+    volume: &[u8],
+    staging: &[u8],
+    sector: usize,
+    bytes: &mut [u8],
+    key: &[u8],
+    answer: &mut [u8],
+) -> Option<u32> {
+    let answer = answer_in(answer)?;
+    let read = on(&mut state.to_vec(), |state| {
+        volume::read_keyed(state, volume, staging, sector as u64, bytes, key)
+    })?;
+    Some(reply(answer, read.map(|()| [0; 5])))
 }
 
 /// Makes a call on the state in a buffer, if there is one.

@@ -3,8 +3,9 @@
 
 use crate::loans::{Loans, DONE};
 use random::{cases, Random, Reached};
-use reference::volume::Layout;
-use volumes::{formatted, geometry};
+use reference::volume::{Layout, TagRule};
+use volumes::keyed::any_key;
+use volumes::{formatted_by, geometry};
 
 /// The bit of what a step says that tells that the volume is filling.
 const FILLING: u64 = 2;
@@ -71,10 +72,23 @@ fn cut_here(random: &mut Random, loans: &Loans, layout: &Layout) -> u64 {
     stores
 }
 
-/// Works the batches on a fresh volume, and cuts before each and after each store. Gives the stores of each recovery.
-fn cut_everywhere(random: &mut Random, layout: &Layout, batches: Batches) -> Vec<u64> {
+/// A fresh volume for the calls with this key, or for those without one.
+fn fresh(random: &mut Random, layout: &Layout, key: Option<&[u8]>) -> Loans {
+    let rule = key.map_or(TagRule::Digest, TagRule::Hmac);
     let staging = random.bytes(geometry(layout).staging_length());
-    let mut loans = Loans::new(random, &formatted(layout, 1), &staging);
+    let mut loans = Loans::new(random, &formatted_by(rule, layout, 1), &staging);
+    loans.put_key(random, key);
+    loans
+}
+
+/// Works the batches on a fresh volume, and cuts before each and after each store. Gives the stores of each recovery.
+fn cut_everywhere(
+    random: &mut Random,
+    layout: &Layout,
+    batches: Batches,
+    key: Option<&[u8]>,
+) -> Vec<u64> {
+    let mut loans = fresh(random, layout, key);
     let mut recoveries = vec![];
     open(random, &mut loans, layout);
     for batch in batches {
@@ -97,6 +111,15 @@ fn cut_everywhere(random: &mut Random, layout: &Layout, batches: Batches) -> Vec
 
 #[test]
 fn cut_after_each_store_of_short_histories() {
+    cut_short_histories(|_| None);
+}
+
+#[test]
+fn cut_after_each_store_under_a_key() {
+    cut_short_histories(|random| Some(any_key(random)));
+}
+
+fn cut_short_histories(key: fn(&mut Random) -> Option<Vec<u8>>) {
     let mut reached = Reached::new();
     cases(1, |random| {
         for (tag_size, sections, batches) in HISTORIES {
@@ -107,7 +130,8 @@ fn cut_after_each_store_of_short_histories() {
                 sections,
                 provided: 10,
             };
-            for stores in cut_everywhere(random, &layout, batches) {
+            let key = key(random);
+            for stores in cut_everywhere(random, &layout, batches, key.as_deref()) {
                 reached.add((sections, stores > 0));
             }
         }

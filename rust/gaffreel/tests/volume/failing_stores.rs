@@ -7,9 +7,10 @@ use gaffreel::volume::{Phase, Said, Sector, Stepped, Stopped, Volume, SECTOR_LEN
 use gaffreel::Refusal;
 use random::{cases, count_compared, Random, Reached};
 use reference::volume::ledger::{Event, Ledger, Record};
-use reference::volume::Layout;
+use reference::volume::{Layout, TagRule};
 use volumes::any::small_layout;
-use volumes::{formatted, geometry, put_section, section, Entry};
+use volumes::keyed::any_key;
+use volumes::{formatted, formatted_by, geometry, put_section, section, Entry};
 
 /// What becomes of a store.
 #[derive(Clone, Copy, Debug, PartialEq, Eq, PartialOrd, Ord)]
@@ -35,8 +36,18 @@ struct Flash<'a> {
     random: &'a mut Random,
     reached: &'a mut Reached<(Kind, Outcome)>,
     layout: Layout,
+    key: Option<Vec<u8>>,
     ledger: Ledger,
     volume: Volume<Mapped>,
+}
+
+/// Opens a volume, with a key or without one.
+fn open(mapped: Mapped, layout: &Layout, key: &Option<Vec<u8>>) -> Volume<Mapped> {
+    let opened = match key {
+        Some(key) => Volume::open_keyed(mapped, layout.reserved, key),
+        None => Volume::open(mapped, layout.reserved),
+    };
+    opened.unwrap()
 }
 
 impl Flash<'_> {
@@ -62,7 +73,7 @@ impl Flash<'_> {
     /// Power is cut, and the volume is opened again.
     fn cut(&mut self) {
         let mapped = Mapped::new(self.volume.bytes());
-        self.volume = Volume::open(mapped, self.layout.reserved).unwrap();
+        self.volume = open(mapped, &self.layout, &self.key);
         self.record(Event::Cut, false);
         self.record(Event::Open, false);
         if self.volume.stores_to_come() == 0 {
@@ -183,15 +194,21 @@ fn any_sector(random: &mut Random) -> Sector {
     sector
 }
 
-fn batches(random: &mut Random, reached: &mut Reached<(Kind, Outcome)>) {
+/// A key of any kind, or none.
+type Key = fn(&mut Random) -> Option<Vec<u8>>;
+
+fn batches(random: &mut Random, reached: &mut Reached<(Kind, Outcome)>, key: Key) {
     let layout = small_layout(random);
-    let mapped = Mapped::new(&formatted(&layout, 0));
+    let key = key(random);
+    let rule = key.as_deref().map_or(TagRule::Digest, TagRule::Hmac);
+    let mapped = Mapped::new(&formatted_by(rule, &layout, 0));
     let mut flash = Flash {
         random,
         reached,
         layout,
         ledger: Ledger::new(&layout).unwrap(),
-        volume: Volume::open(mapped, layout.reserved).unwrap(),
+        volume: open(mapped, &layout, &key),
+        key,
     };
     for _ in 0..10 {
         flash.batch();
@@ -201,8 +218,17 @@ fn batches(random: &mut Random, reached: &mut Reached<(Kind, Outcome)>) {
 
 #[test]
 fn made_again_or_given_up() {
+    made_again_or_given_up_under(|_| None);
+}
+
+#[test]
+fn made_again_or_given_up_with_a_key() {
+    made_again_or_given_up_under(|random| Some(any_key(random)));
+}
+
+fn made_again_or_given_up_under(key: Key) {
     let mut reached = Reached::new();
-    cases(100, |random| batches(random, &mut reached));
+    cases(100, |random| batches(random, &mut reached, key));
     for kind in [
         Kind::Commit,
         Kind::LastCommit,

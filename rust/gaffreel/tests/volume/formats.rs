@@ -4,6 +4,7 @@ use crate::loans::{Loans, DONE};
 use random::{cases, Random};
 use reference::volume::Layout;
 use volumes::geometry;
+use volumes::keyed::{any_key, KEY_LENGTHS};
 
 /// A layout in range whose volume has some hundred sectors.
 fn layout(random: &mut Random) -> Layout {
@@ -33,6 +34,15 @@ fn unformatted(random: &mut Random, layout: &Layout, sectors: usize) -> Vec<u8> 
 /// Formatted, queried, opened, and a few sectors read.
 #[test]
 fn formats() {
+    formats_under(|_| None);
+}
+
+#[test]
+fn formats_with_a_key() {
+    formats_under(|random| Some(any_key(random)));
+}
+
+fn formats_under(key: fn(&mut Random) -> Option<Vec<u8>>) {
     cases(400, |random| {
         let layout = layout(random);
         let geometry = geometry(&layout);
@@ -40,6 +50,8 @@ fn formats() {
         let volume = unformatted(random, &layout, sectors);
         let staging = random.bytes(geometry.staging_length());
         let mut loans = Loans::new(random, &volume, &staging);
+        let key = key(random);
+        loans.put_key(random, key.as_deref());
         assert_eq!(loans.format(&layout), DONE);
         assert_eq!(loans.query(layout.reserved), DONE);
         assert_eq!(loans.answer()[0], geometry.staging_length() as u64);
@@ -76,6 +88,10 @@ fn refused_formats() {
             _ => {}
         }
         let mut loans = Loans::new(random, &volume, &[]);
+        loans.clone().format(&layout);
+        let length = random.pick(&KEY_LENGTHS);
+        let key = random.bytes(length);
+        loans.put_key(random, Some(&key));
         loans.format(&layout);
     });
 }
@@ -96,10 +112,14 @@ fn greatest_volumes() {
             assert_eq!(geometry.sectors, 65_536);
             let volume = unformatted(random, &layout, geometry.sectors);
             let staging = random.bytes(geometry.staging_length());
-            let mut loans = Loans::new(random, &volume, &staging);
-            assert_eq!(loans.format(&layout), DONE);
-            assert_eq!(loans.open(reserved), DONE);
-            assert_eq!(loans.read(provided - 1), DONE);
+            let loans = Loans::new(random, &volume, &staging);
+            for key in [None, Some(&[7; 256][..])] {
+                let mut loans = loans.clone();
+                loans.put_key(random, key);
+                assert_eq!(loans.format(&layout), DONE);
+                assert_eq!(loans.open(reserved), DONE);
+                assert_eq!(loans.read(provided - 1), DONE);
+            }
         }
     });
 }

@@ -1,11 +1,13 @@
 //! Long histories: calls in a row on one small volume, its state kept from call to call, with cuts, damaged bytes and ids
-//! near the last. Asked of them: that each call answers each number that it can in a history.
+//! near the last. Under a key, the calls also come with another key, with one of a wrong length and without one. Asked of them:
+//! that each call answers each number that it can in a history.
 
 use crate::loans::{Loans, DONE};
 use random::{cases, Lent, Random, Reached};
-use reference::volume::{Geometry, Layout};
+use reference::volume::{Geometry, Layout, TagRule};
 use volumes::any::any_number;
-use volumes::{formatted, geometry, put_id, put_ids};
+use volumes::keyed::{any_key, other_key, wrong_key_length};
+use volumes::{formatted_by, geometry, put_id, put_ids};
 
 /// What was called, and the number that it answered.
 type Answered = (&'static str, u32);
@@ -46,6 +48,17 @@ const SELDOM: [Answered; 15] = [
     ("read", 7),
 ];
 
+/// What the calls with a key answer besides, where they come with another.
+const WITH_ANOTHER_KEY: [Answered; 7] = [
+    ("open with another key", DONE),
+    ("open with another key", 2),
+    ("open with another key", 7),
+    ("write with another key", DONE),
+    ("write with another key", 2),
+    ("read with another key", 2),
+    ("read with another key", 7),
+];
+
 /// Small volumes, so that all their bytes are soon compared.
 fn layout(random: &mut Random, sections: &[u64]) -> Layout {
     Layout {
@@ -58,8 +71,8 @@ fn layout(random: &mut Random, sections: &[u64]) -> Layout {
 }
 
 /// A formatted volume; in some cases an id near the last stands on a sector of its journal.
-fn volume(random: &mut Random, layout: &Layout, geometry: &Geometry) -> Vec<u8> {
-    let mut volume = formatted(layout, random.length(0..=1));
+fn volume(random: &mut Random, layout: &Layout, geometry: &Geometry, rule: TagRule) -> Vec<u8> {
+    let mut volume = formatted_by(rule, layout, random.length(0..=1));
     if random.number().is_multiple_of(3) {
         let section = random.length(0..=geometry.sections - 1);
         let sector = random.length(0..=geometry.section_sectors - 1);
@@ -74,11 +87,44 @@ struct History<'a> {
     reached: &'a mut Reached<Answered>,
     layout: Layout,
     geometry: Geometry,
+    /// The key of the volume, if it has one.
+    key: Option<Vec<u8>>,
     loans: Loans,
     calls: usize,
 }
 
+/// The rule of a key, or of none.
+fn rule(key: &Option<Vec<u8>>) -> TagRule<'_> {
+    key.as_deref().map_or(TagRule::Digest, TagRule::Hmac)
+}
+
 impl History<'_> {
+    /// Makes a call, seldom with another key than the volume's, of any length, or without one; its name then tells.
+    fn with_a_key(
+        &mut self,
+        call: &'static str,
+        with_another: &'static str,
+        made: impl FnOnce(&mut Loans) -> u32,
+    ) -> u32 {
+        let Some(key) = &self.key else {
+            let number = made(&mut self.loans);
+            return self.answered(call, number);
+        };
+        if !self.random.number().is_multiple_of(16) {
+            let number = made(&mut self.loans);
+            return self.answered(call, number);
+        }
+        let other = match self.random.number() % 4 {
+            0 => None,
+            1 => Some(vec![7; wrong_key_length(self.random)]),
+            _ => Some(other_key(self.random, key)),
+        };
+        self.loans.put_key(self.random, other.as_deref());
+        let number = made(&mut self.loans);
+        self.loans.put_key(self.random, self.key.as_deref());
+        self.answered(with_another, number)
+    }
+
     fn answered(&mut self, call: &'static str, number: u32) -> u32 {
         self.calls += 1;
         self.reached.add((call, number));
@@ -98,8 +144,9 @@ impl History<'_> {
     fn write(&mut self) {
         self.loans.fill(self.random, |lent| &mut lent.bytes);
         let sector = self.sector();
-        let number = self.loans.write(sector);
-        self.answered("write", number);
+        self.with_a_key("write", "write with another key", |loans| {
+            loans.write(sector)
+        });
     }
 
     /// A few writes; seldom as many as make the batch full.
@@ -152,8 +199,7 @@ impl History<'_> {
     fn reads(&mut self) {
         for _ in 0..4 {
             let sector = self.sector();
-            let number = self.loans.read(sector);
-            self.answered("read", number);
+            self.with_a_key("read", "read with another key", |loans| loans.read(sector));
         }
     }
 
@@ -167,9 +213,13 @@ impl History<'_> {
         }
         let number = self.loans.query(self.layout.reserved);
         self.answered("query", number);
-        let number = self.loans.open(self.layout.reserved);
-        if self.answered("open", number) != DONE {
-            let volume = volume(self.random, &self.layout, &self.geometry);
+        let reserved = self.layout.reserved;
+        let opened = self.with_a_key("open", "open with another key", |loans| {
+            loans.open(reserved)
+        });
+        if opened != DONE {
+            let rule = rule(&self.key);
+            let volume = volume(self.random, &self.layout, &self.geometry, rule);
             let volume = Lent::of(self.random, &volume);
             self.loans.lend(|lent| &mut lent.volume, &volume);
             let number = self.loans.open(self.layout.reserved);
@@ -230,19 +280,27 @@ impl History<'_> {
 }
 
 /// Histories of so many calls each, on journals of so many sections.
-fn histories(count: u64, sections: &[u64]) -> Reached<Answered> {
+fn histories(
+    count: u64,
+    sections: &[u64],
+    key: fn(&mut Random) -> Option<Vec<u8>>,
+) -> Reached<Answered> {
     let mut reached = Reached::new();
     cases(count, |random| {
         let layout = layout(random, sections);
         let geometry = geometry(&layout);
-        let volume = volume(random, &layout, &geometry);
+        let key = key(random);
+        let volume = volume(random, &layout, &geometry, rule(&key));
         let staging = random.bytes(geometry.staging_length());
+        let mut loans = Loans::new(random, &volume, &staging);
+        loans.put_key(random, key.as_deref());
         let mut history = History {
-            loans: Loans::new(random, &volume, &staging),
+            loans,
             random,
             reached: &mut reached,
             layout,
             geometry,
+            key,
             calls: 0,
         };
         history.cut();
@@ -257,12 +315,18 @@ fn histories(count: u64, sections: &[u64]) -> Reached<Answered> {
 
 #[test]
 fn with_one_section() {
-    histories(800, &[1]);
+    histories(800, &[1], |_| None);
 }
 
 #[test]
 fn with_two_or_three_sections() {
-    let reached = histories(600, &[2, 3]);
+    let reached = histories(600, &[2, 3], |_| None);
     // A section's wrong place: with one section there is none.
     reached.assert_each(20, [("open", 11)]);
+}
+
+#[test]
+fn under_a_key() {
+    let reached = histories(600, &[1, 1, 2, 3], |random| Some(any_key(random)));
+    reached.assert_each(20, WITH_ANOTHER_KEY);
 }

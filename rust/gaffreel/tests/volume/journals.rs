@@ -2,8 +2,9 @@
 
 use crate::loans::Loans;
 use random::{cases, Random, Reached};
-use reference::volume::{Geometry, Half, Layout, Phase, State};
+use reference::volume::{Geometry, Half, Layout, Phase, State, TagRule};
 use volumes::any::{any_number, any_section, small_layout, with_journal};
+use volumes::keyed::{any_key, retag};
 use volumes::kinds::{kinds, KINDS};
 use volumes::{empty_staging, formatted, geometry, put_id, put_section, section, Entry};
 
@@ -25,9 +26,10 @@ fn recovering(layout: &Layout, store: u64) -> State {
 }
 
 /// Opens a volume with staging of the right length, and finishes the recovery.
-fn opened(random: &mut Random, volume: &[u8], layout: &Layout) {
+fn opened(random: &mut Random, volume: &[u8], layout: &Layout, key: Option<&[u8]>) {
     let staging = random.bytes(geometry(layout).staging_length());
     let mut loans = Loans::new(random, volume, &staging);
+    loans.put_key(random, key);
     loans.query(layout.reserved);
     if loans.open(layout.reserved) == 0 {
         run(random, &mut loans);
@@ -39,14 +41,27 @@ fn opened(random: &mut Random, volume: &[u8], layout: &Layout) {
 /// not fit.
 #[test]
 fn opens() {
+    opens_under(6_000, |_| None);
+}
+
+#[test]
+fn opens_with_a_key() {
+    opens_under(6_000, |random| Some(any_key(random)));
+}
+
+fn opens_under(count: u64, key: fn(&mut Random) -> Option<Vec<u8>>) {
     let mut reached = Reached::new();
-    cases(6_000, |random| {
+    cases(count, |random| {
         let layout = small_layout(random);
-        let volume = with_journal(random, &layout);
+        let mut volume = with_journal(random, &layout);
         for kind in kinds(&volume, &geometry(&layout)) {
             reached.add(kind);
         }
-        opened(random, &volume, &layout);
+        let key = key(random);
+        if let Some(key) = &key {
+            retag(&mut volume, &layout, TagRule::Hmac(key));
+        }
+        opened(random, &volume, &layout, key.as_deref());
     });
     reached.assert_each(100, KINDS);
 }
@@ -107,7 +122,7 @@ fn many_sections() {
         };
         let geometry = geometry(&layout);
         let volume = with_many_sections(random, &layout, &geometry);
-        opened(random, &volume, &layout);
+        opened(random, &volume, &layout, None);
         let mut loans = Loans::new(random, &volume, &empty_staging(&geometry));
         let store = random.pick(&[0, 1, 20]);
         loans.put_state(&recovering(&layout, store));

@@ -22,10 +22,13 @@ pub struct Buffers {
     pub bytes: Lent,
     pub layout: Lent,
     pub answer: Lent,
+    pub key: Lent,
 }
 
 #[derive(Clone)]
 pub struct Loans {
+    /// Whether format, open, write and read are the calls with a key.
+    keyed: bool,
     proved: Buffers,
     wrapped: Buffers,
     expected: Buffers,
@@ -67,6 +70,7 @@ impl Buffers {
             ("volume", &self.volume, &expected.volume),
             ("staging", &self.staging, &expected.staging),
             ("sector", &self.bytes, &expected.bytes),
+            ("key", &self.key, &expected.key),
         ] {
             // A buffer that differs may be too long to print.
             assert!(
@@ -89,8 +93,11 @@ impl Loans {
             bytes: Lent::new(random, SECTOR_LENGTH),
             layout: Lent::new(random, LAYOUT_LENGTH),
             answer: Lent::new(random, ANSWER_LENGTH),
+            // Of numbers of its own: calls without a key have the cases that they would have if there were no keys.
+            key: Lent::new(&mut Random::from_seed(1), 0),
         };
         Loans {
+            keyed: false,
             proved: lent.clone(),
             wrapped: lent.clone(),
             expected: lent,
@@ -129,6 +136,14 @@ impl Loans {
         }
     }
 
+    /// Has format, open, write and read be those with this key; with none, those without one.
+    pub fn put_key(&mut self, random: &mut Random, key: Option<&[u8]>) {
+        self.keyed = key.is_some();
+        if let Some(key) = key {
+            self.lend(|lent| &mut lent.key, &Lent::of(random, key));
+        }
+    }
+
     /// Power is lost: state and staging hold any bytes.
     pub fn cut(&mut self, random: &mut Random) {
         self.fill(random, |lent| &mut lent.state);
@@ -150,6 +165,22 @@ impl Loans {
         let width = layout.tag_size as usize;
         let sections = layout.sections as usize;
         let provided = layout.provided as usize;
+        if self.keyed {
+            return same!(
+                self,
+                lent,
+                volume_format_keyed(
+                    lent.volume.buffer(),
+                    reserved,
+                    shift,
+                    width,
+                    sections,
+                    provided,
+                    lent.key.bytes(),
+                    lent.answer.buffer()
+                )
+            );
+        }
         same!(
             self,
             lent,
@@ -179,6 +210,20 @@ impl Loans {
     }
 
     pub fn open(&mut self, reserved: u64) -> u32 {
+        if self.keyed {
+            return same!(
+                self,
+                lent,
+                volume_open_keyed(
+                    lent.volume.bytes(),
+                    lent.staging.buffer(),
+                    reserved as usize,
+                    lent.key.bytes(),
+                    lent.state.buffer(),
+                    lent.answer.buffer()
+                )
+            );
+        }
         same!(
             self,
             lent,
@@ -193,6 +238,20 @@ impl Loans {
     }
 
     pub fn write(&mut self, sector: u64) -> u32 {
+        if self.keyed {
+            return same!(
+                self,
+                lent,
+                volume_write_keyed(
+                    lent.state.buffer(),
+                    lent.staging.buffer(),
+                    sector as usize,
+                    lent.bytes.bytes(),
+                    lent.key.bytes(),
+                    lent.answer.buffer()
+                )
+            );
+        }
         same!(
             self,
             lent,
@@ -266,6 +325,21 @@ impl Loans {
     }
 
     pub fn read(&mut self, sector: u64) -> u32 {
+        if self.keyed {
+            return same!(
+                self,
+                lent,
+                volume_read_keyed(
+                    lent.state.bytes(),
+                    lent.volume.bytes(),
+                    lent.staging.bytes(),
+                    sector as usize,
+                    lent.bytes.buffer(),
+                    lent.key.bytes(),
+                    lent.answer.buffer()
+                )
+            );
+        }
         same!(
             self,
             lent,

@@ -15,6 +15,7 @@
 //! - `next_stores`: stores told, on a volume that is mapped for reading only, against steps; cuts before and after each.
 //! - `failing_stores`: the same by the safe wrapper, with stores that fail or are given up, against the ledger.
 //! - `any_input`: volumes, staging, states and arguments of any kind.
+//! - `keyed`: keys of every length, right, wrong and missing ones; most of the others run with a key too.
 //! - `examples`: document 01's examples.
 //!
 //! `histories`, `states`, `journals`, `cuts`, `next_stores` and `failing_stores` count the kinds of cases that they reach, and
@@ -31,6 +32,7 @@ mod failing_stores;
 mod formats;
 mod histories;
 mod journals;
+mod keyed;
 mod loans;
 mod mapped;
 mod next_stores;

@@ -8,7 +8,8 @@ use crate::by_reference::{COUNT, FIRST, ID, PHASE, SECOND, UNUSED};
 use crate::loans::{Loans, DONE};
 use gaffreel::volume::{ANSWER_LENGTH, LAYOUT_LENGTH, SECTOR_LENGTH, STATE_LENGTH};
 use random::{cases, Lent, Random};
-use reference::volume::{Geometry, Layout};
+use reference::volume::{Geometry, Layout, TagRule};
+use volumes::keyed::{any_key, other_key, retag, wrong_key_length};
 use volumes::{empty_staging, formatted, geometry};
 use volumes::{put_id, put_ids, put_section, section, Entry};
 
@@ -29,6 +30,7 @@ struct Input {
     reserved: u64,
     sector: u64,
     steps: u64,
+    key: Option<Vec<u8>>,
 }
 
 /// A fault and the number that it is refused with.
@@ -69,7 +71,17 @@ fn good(random: &mut Random) -> Input {
         reserved: layout.reserved,
         sector: layout.provided - 1,
         steps: random.pick(&[2, 3, u64::MAX]),
+        key: None,
     }
+}
+
+/// The same with a key.
+fn good_with_key(random: &mut Random) -> Input {
+    let mut input = good(random);
+    let key = any_key(random);
+    retag(&mut input.volume, &input.layout, TagRule::Hmac(&key));
+    input.key = Some(key);
+    input
 }
 
 fn lent(random: &mut Random, input: &Input) -> Loans {
@@ -84,6 +96,7 @@ fn lent(random: &mut Random, input: &Input) -> Loans {
     loans.lend(|lent| &mut lent.layout, &layout);
     let answer = Lent::new(random, input.answer_length);
     loans.lend(|lent| &mut lent.answer, &answer);
+    loans.put_key(random, input.key.as_deref());
     loans
 }
 
@@ -112,6 +125,18 @@ const STAGING: Fault = (1, |random, input| {
 const PART_OF_A_SECTOR: Fault = (1, |random, input| {
     let length = input.volume.len() + random.length(1..=511);
     input.volume.resize(length, 7);
+});
+
+/// The key is empty or too long.
+const KEY: Fault = (2, |random, input| {
+    let length = wrong_key_length(random);
+    input.key = Some(random.bytes(length));
+});
+
+/// Another key than the one that the tags were made with.
+const WRONG_KEY: Fault = (7, |random, input| {
+    let key = input.key.take().expect("the call has a key");
+    input.key = Some(other_key(random, &key));
 });
 
 const UNSOUND: Fault = (1, |random, input| {
@@ -441,6 +466,73 @@ fn of_read() {
         let others = [STAGING, BYTES, STORE, IN_RECOVERY, SECTOR, TAGS];
         let faults = [&lengths[..], &others].concat();
         let mut input = good(random);
+        input.state[COUNT] = random.number() % 4;
+        every_two(random, &input, &faults, |loans, input| {
+            loans.read(input.sector)
+        });
+    });
+}
+
+#[test]
+fn of_format_with_a_key() {
+    cases(200, |random| {
+        let mut input = good_with_key(random);
+        superblock(&mut input).fill(0);
+        let faults = [
+            ANSWER,
+            PART_OF_A_SECTOR,
+            KEY,
+            PARAMETER,
+            SHORT,
+            SUPERBLOCK_NOT_ZERO,
+        ];
+        every_two(random, &input, &faults, |loans, input| {
+            loans.format(&input.layout)
+        });
+    });
+}
+
+#[test]
+fn of_open_with_a_key() {
+    cases(60, |random| {
+        let (volume, others) = OF_SUPERBLOCK.split_at(1);
+        // A wrong key shows at the first entry to be replayed, the other faults are those of the second.
+        let of_journal = [
+            STAGING,
+            LAST_ID,
+            MISPLACED,
+            WRONG_KEY,
+            JOURNAL_SECTOR,
+            JOURNAL_TAG,
+        ];
+        let faults = [&[ANSWER, STATE], volume, &[KEY], others, &of_journal].concat();
+        let mut input = good_with_key(random);
+        input.staging = empty_staging(&input.geometry);
+        every_two(random, &input, &faults, |loans, input| {
+            loans.open(input.reserved)
+        });
+    });
+}
+
+#[test]
+fn of_write_with_a_key() {
+    cases(150, |random| {
+        let lengths = [ANSWER, STATE, UNSOUND, STAGING, BYTES];
+        let faults = [&lengths[..], &[KEY, NOT_FILLING, SECTOR, FULL]].concat();
+        let input = good_with_key(random);
+        every_two(random, &input, &faults, |loans, input| {
+            loans.write(input.sector)
+        });
+    });
+}
+
+#[test]
+fn of_read_with_a_key() {
+    cases(100, |random| {
+        let lengths = [ANSWER, STATE, UNSOUND, PART_OF_A_SECTOR, SHORT_FOR_STATE];
+        let others = [STAGING, BYTES, STORE, KEY, IN_RECOVERY, SECTOR, TAGS];
+        let faults = [&lengths[..], &others, &[WRONG_KEY]].concat();
+        let mut input = good_with_key(random);
         input.state[COUNT] = random.number() % 4;
         every_two(random, &input, &faults, |loans, input| {
             loans.read(input.sector)

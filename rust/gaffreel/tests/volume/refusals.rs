@@ -1,7 +1,8 @@
 //! Each refusal of each call, by the safe wrapper: its number, its values and what it says.
 
 use gaffreel::volume::{advance, flush, format, next_store, open, query, read, step, write};
-use gaffreel::volume::{Layout, Phase, State, Stopped};
+use gaffreel::volume::{format_keyed, open_keyed, read_keyed, write_keyed};
+use gaffreel::volume::{Layout, Phase, State, Stopped, Volume};
 use gaffreel::Refusal;
 use volumes::{put_id, put_section, section, Entry};
 
@@ -252,6 +253,45 @@ fn of_read() {
         let answer = read(&state, &volume, &[0; STAGING], sector, &mut out);
         assert_eq!((answer, out), (Err(refusal), [9; 512]));
     }
+}
+
+/// A key of a wrong length, and tags that do not fit under a key.
+#[test]
+fn of_the_calls_with_a_key() {
+    let key = [7; 64];
+    let mut volume = vec![0; SECTORS * 512];
+    format_keyed(&mut volume, &LAYOUT, &key).unwrap();
+    let filling = in_phase(Phase::Filling, 0);
+    for length in [0, 257, 1000] {
+        let refused = Err(Refusal::OutOfRange);
+        let key = vec![7; length];
+        let mut zero = vec![0; SECTORS * 512];
+        assert_eq!(format_keyed(&mut zero, &LAYOUT, &key), refused);
+        let mut staging = [0; STAGING];
+        let answer = open_keyed(&volume, 2, &mut staging, &key);
+        assert_eq!(answer.map(|_| ()), refused);
+        let answer = write_keyed(&mut { filling }, &mut staging, 0, &[0; 512], &key);
+        assert_eq!(answer, refused);
+        let mut out = [9; 512];
+        let answer = read_keyed(&filling, &volume, &staging, 0, &mut out, &key);
+        assert_eq!((answer, out), (refused, [9; 512]));
+        assert_eq!(Volume::open_keyed(&volume, 2, &key).map(|_| ()), refused);
+        // 1 before 2, and 2 for the key before all others.
+        let answer = Volume::open_keyed(&volume[1..], 2, &key).err();
+        assert_eq!(answer, Some(Refusal::LengthOrState));
+        assert_eq!(Volume::open_keyed(&[], 2, &key).map(|_| ()), refused);
+    }
+    let answer = format_keyed(&mut volume.clone(), &LAYOUT, &key);
+    assert_eq!(answer, Err(Refusal::SuperblockNotZero));
+    let answer = read_keyed(
+        &filling,
+        &volume,
+        &[0; STAGING],
+        4,
+        &mut [9; 512],
+        &key[1..],
+    );
+    assert_eq!(answer, Err(Refusal::Tag { sector: 4 }));
 }
 
 #[test]

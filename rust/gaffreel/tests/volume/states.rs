@@ -11,9 +11,11 @@ use random::{cases, Random, Reached};
 use reference::volume::{Geometry, Layout};
 use volumes::any::{any_number, any_section, with_journal};
 use volumes::geometry;
+use volumes::keyed::{any_key, wrong_key_length};
 use volumes::kinds::stores_to_replay;
 
 const LENGTH_OR_STATE: u32 = 1;
+const OUT_OF_RANGE: u32 = 2;
 
 /// What makes a state one that is not sound.
 #[derive(Clone, Copy, Debug, PartialEq, Eq, PartialOrd, Ord)]
@@ -204,6 +206,30 @@ fn call(random: &mut Random, loans: &mut Loans, name: &'static str, broken: &[Cl
     assert_eq!(number == LENGTH_OR_STATE, refused, "{name} on {broken:?}");
 }
 
+/// The same of the calls with a key: a state that is not sound is refused before the key is, and any other behind it.
+fn call_with_a_key(random: &mut Random, loans: &mut Loans, name: &'static str, broken: &[Clause]) {
+    if !["write", "read"].contains(&name) {
+        return;
+    }
+    let key = any_key(random);
+    loans.put_key(random, Some(&key));
+    call(random, &mut loans.clone(), name, broken);
+    let refused_key = vec![5; wrong_key_length(random)];
+    loans.put_key(random, Some(&refused_key));
+    let sound = match name {
+        "write" => broken.iter().all(|clause| ON_VOLUMES.contains(clause)),
+        _ => broken.is_empty(),
+    };
+    let sector = random.number() % 14;
+    let number = match name {
+        "write" => loans.write(sector),
+        _ => loans.read(sector),
+    };
+    let expected = if sound { OUT_OF_RANGE } else { LENGTH_OR_STATE };
+    assert_eq!(number, expected, "{name} on {broken:?}");
+    loans.put_key(random, None);
+}
+
 /// An advance of no steps tests whether there is a state, and no more.
 fn no_steps(loans: &mut Loans, broken: &[Clause]) {
     let none = [Clause::Unused, Clause::Phase, Clause::Place];
@@ -230,6 +256,7 @@ fn each_call(
         if name == CALLS[0] {
             no_steps(loans, &broken);
         }
+        call_with_a_key(random, loans, name, &broken);
         call(random, loans, name, &broken);
         match broken[..] {
             [] => reached.add((None, name)),

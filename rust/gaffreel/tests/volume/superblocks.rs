@@ -3,6 +3,7 @@
 use crate::loans::{Loans, DONE};
 use random::{cases, Random};
 use reference::volume::Layout;
+use volumes::keyed::any_key;
 use volumes::{formatted, geometry};
 
 const LAYOUT: Layout = Layout {
@@ -26,12 +27,17 @@ fn opened(random: &mut Random) -> Loans {
     loans
 }
 
-/// Replaces bytes of the superblock, queries and opens, and puts the bytes back. Gives the query's number.
-fn with_bytes(loans: &mut Loans, place: usize, bytes: &[u8]) -> u32 {
+/// Replaces bytes of the superblock, queries, opens without a key and with one, which with an empty journal may be any, and puts the
+/// bytes back. Gives the query's number.
+fn with_bytes(random: &mut Random, loans: &mut Loans, place: usize, bytes: &[u8]) -> u32 {
     let before = loans.lent().volume.bytes()[START + place..][..bytes.len()].to_vec();
     loans.put(|lent| &mut lent.volume, START + place, bytes);
     let number = loans.query(LAYOUT.reserved);
-    loans.open(LAYOUT.reserved);
+    let without = loans.open(LAYOUT.reserved);
+    let key = any_key(random);
+    loans.put_key(random, Some(&key));
+    assert_eq!(loans.open(LAYOUT.reserved), without);
+    loans.put_key(random, None);
     loans.put(|lent| &mut lent.volume, START + place, &before);
     number
 }
@@ -43,7 +49,7 @@ fn each_byte() {
         for place in 0..8 * 512 {
             let right = loans.lent().volume.bytes()[START + place];
             let wrong = right ^ random.length(1..=255) as u8;
-            let number = with_bytes(&mut loans, place, &[wrong]);
+            let number = with_bytes(random, &mut loans, place, &[wrong]);
             if !(9..24).contains(&place) {
                 assert_eq!(number, NOT_VALID, "byte {place}");
             }
@@ -88,7 +94,7 @@ fn each_number() {
                 let bytes = &number.to_le_bytes()[..length];
                 let mut kept = [0; 8];
                 kept[..length].copy_from_slice(bytes);
-                let answer = with_bytes(&mut loans, place, bytes);
+                let answer = with_bytes(random, &mut loans, place, bytes);
                 assert_eq!(answer, expected(place, u64::from_le_bytes(kept)));
             }
         }

@@ -2,7 +2,8 @@
 
 use super::open::{layout_on, test_journal};
 use super::recover::store_from;
-use super::{loan, tag, Geometry, Layout, Refusal};
+use super::tag::Tags;
+use super::{loan, Geometry, Layout, Refusal, TagRule};
 use std::borrow::Cow;
 
 /// What a check found.
@@ -17,10 +18,11 @@ pub struct Checked {
 }
 
 /// Opens a volume, finishes its recovery in a copy and tests every sector. Refused as open is, staging apart.
-pub fn check(volume: &[u8], reserved: u64) -> Result<Checked, Refusal> {
+pub fn check(volume: &[u8], reserved: u64, rule: TagRule) -> Result<Checked, Refusal> {
     let sectors = loan::volume(volume)?;
+    let tags = rule.ready()?;
     let (layout, geometry) = layout_on(sectors, reserved)?;
-    let (replay, _) = test_journal(&geometry, sectors)?;
+    let (replay, _) = test_journal(&geometry, sectors, &tags)?;
 
     let mut recovered = Cow::Borrowed(volume);
     if !replay.is_empty() {
@@ -30,21 +32,21 @@ pub fn check(volume: &[u8], reserved: u64) -> Result<Checked, Refusal> {
     Ok(Checked {
         layout,
         stores: 2 * replay.len() as u64,
-        bad: bad_sectors(&geometry, &recovered),
+        bad: bad_sectors(&geometry, &recovered, &tags),
     })
 }
 
 /// The sectors whose tags don't fit: runs in order, tags and data side by side.
-fn bad_sectors(geometry: &Geometry, volume: &[u8]) -> Vec<u64> {
+fn bad_sectors(geometry: &Geometry, volume: &[u8], tags: &Tags) -> Vec<u64> {
     let mut bad = vec![];
     let (sectors, _) = volume.as_chunks();
     let runs = sectors[geometry.base..geometry.sectors].chunks(geometry.tag_area + geometry.run);
     let mut sector = 0;
     for run in runs {
         let (tag_area, data) = run.split_at(geometry.tag_area);
-        let tags = tag_area.as_flattened().chunks_exact(geometry.tag_size);
-        for (tag, data) in tags.zip(data) {
-            if !tag::fits(tag, sector, data) {
+        let area = tag_area.as_flattened().chunks_exact(geometry.tag_size);
+        for (tag, data) in area.zip(data) {
+            if !tags.fit(tag, sector, data) {
                 bad.push(sector);
             }
             sector += 1;

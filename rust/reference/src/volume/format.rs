@@ -1,12 +1,13 @@
 //! Making a volume.
 
-use super::{digest_of_sector, loan, superblock};
-use super::{Layout, Refusal, SECTOR_LENGTH, SUPERBLOCK_SECTORS};
+use super::{loan, superblock};
+use super::{Layout, Refusal, TagRule, SECTOR_LENGTH, SUPERBLOCK_SECTORS};
 
 /// Makes a volume whose superblock is still zero: every sector provided is zero and has its tag. The reserved sectors
 /// and those behind the last run stay as they are.
-pub fn format(volume: &mut [u8], layout: &Layout) -> Result<(), Refusal> {
+pub fn format(volume: &mut [u8], layout: &Layout, rule: TagRule) -> Result<(), Refusal> {
     let sectors = loan::volume_mut(volume)?;
+    let tags = rule.ready()?;
     let geometry = layout.geometry().ok_or(Refusal::Parameter)?;
     if sectors.len() < geometry.sectors {
         return Err(Refusal::VolumeTooShort {
@@ -23,7 +24,7 @@ pub fn format(volume: &mut [u8], layout: &Layout) -> Result<(), Refusal> {
     sectors[superblock].copy_from_slice(&superblock::encode(layout));
     for sector in 0..layout.provided {
         let home = geometry.home(sector).expect("it is below the number");
-        let tag = &digest_of_sector(sector, &ZERO)[..geometry.tag_size];
+        let tag = &tags.of_sector(sector, &ZERO)[..geometry.tag_size];
         volume[home.tag..home.tag + geometry.tag_size].copy_from_slice(tag);
     }
     Ok(())

@@ -1,7 +1,8 @@
 //! The journal of a volume: whole sections, and the entries to replay (document 01, "A journal section").
 
 use super::section::{self, Entry};
-use super::{tag, Geometry, Refusal, Sector};
+use super::tag::Tags;
+use super::{Geometry, Refusal, Sector};
 
 /// A used entry of a whole section.
 #[derive(Clone, Copy, Debug, PartialEq, Eq)]
@@ -75,12 +76,12 @@ impl<'a> Journal<'a> {
     }
 
     /// Open's test of an entry: its sector is below the number provided, and its tag fits.
-    pub fn test(&self, place: Place) -> Result<(), Refusal> {
+    pub fn test(&self, place: Place, tags: &Tags) -> Result<(), Refusal> {
         let entry = self.entry(place);
         if entry.sector >= self.geometry.provided as u64 {
             return Err(place.sector_refused());
         }
-        if !tag::fits(&entry.tag, entry.sector, &entry.data) {
+        if !tags.fit(&entry.tag, entry.sector, &entry.data) {
             return Err(Refusal::JournalTag {
                 section: place.section as u64,
                 entry: place.entry as u64,

@@ -1,4 +1,4 @@
-//! A tagged volume with a journal, from document 01.
+//! A tagged volume with a journal, from document 01, with the tags of document 02's order 1 too.
 //!
 //! A volume, a staging section and a sector are lent as bytes of any length and content; states and parameters may
 //! be anything too. Each call tests what it was given in document 01's order and answers with the first rule that is
@@ -40,5 +40,5 @@ pub use refusal::Refusal;
 pub use state::{Half, Phase, State};
 pub use step::{step, Said, Stepped};
 pub use superblock::SUPERBLOCK_SECTORS;
-pub use tag::digest_of_sector;
+pub use tag::{digest_of_sector, TagRule};
 pub use write::write;

@@ -1,8 +1,9 @@
 //! Opening a volume. Nothing is stored on it.
 
 use super::journal::{Journal, Place};
+use super::tag::Tags;
 use super::{loan, section, superblock};
-use super::{Geometry, Layout, Phase, Refusal, Sector, State, SUPERBLOCK_SECTORS};
+use super::{Geometry, Layout, Phase, Refusal, Sector, State, TagRule, SUPERBLOCK_SECTORS};
 
 /// What an open that is taken gives.
 #[derive(Clone, Copy, Debug, PartialEq, Eq)]
@@ -14,11 +15,17 @@ pub struct Opened {
 }
 
 /// Opens a volume that was formatted with `reserved` reserved sectors, and makes staging an empty section.
-pub fn open(volume: &[u8], reserved: u64, staging: &mut [u8]) -> Result<Opened, Refusal> {
+pub fn open(
+    volume: &[u8],
+    reserved: u64,
+    staging: &mut [u8],
+    rule: TagRule,
+) -> Result<Opened, Refusal> {
     let volume = loan::volume(volume)?;
+    let tags = rule.ready()?;
     let (layout, geometry) = layout_on(volume, reserved)?;
     let staging = loan::staging_mut(&geometry, staging)?;
-    let (replay, id) = test_journal(&geometry, volume)?;
+    let (replay, id) = test_journal(&geometry, volume, &tags)?;
 
     section::clear(&geometry, staging);
     let phase = if replay.is_empty() {
@@ -66,6 +73,7 @@ pub(super) fn layout_on(volume: &[Sector], reserved: u64) -> Result<(Layout, Geo
 pub(super) fn test_journal(
     geometry: &Geometry,
     volume: &[Sector],
+    tags: &Tags,
 ) -> Result<(Vec<Place>, u64), Refusal> {
     let journal = Journal::of(geometry, volume);
     let next_id = journal
@@ -81,7 +89,7 @@ pub(super) fn test_journal(
     }
     let replay = journal.replay();
     for place in &replay {
-        journal.test(*place)?;
+        journal.test(*place, tags)?;
     }
     Ok((replay, next_id))
 }

@@ -1,7 +1,7 @@
 //! Reading a sector.
 
-use super::{loan, section, tag};
-use super::{Phase, Refusal, State};
+use super::{loan, section};
+use super::{Phase, Refusal, State, TagRule};
 
 /// Copies out the newest data of a sector: the batch's, else the volume's if its tag fits.
 pub fn read(
@@ -10,11 +10,13 @@ pub fn read(
     staging: &[u8],
     sector: u64,
     out: &mut [u8],
+    rule: TagRule,
 ) -> Result<(), Refusal> {
     let sectors = loan::volume(volume)?;
     let geometry = state.sound_on(sectors)?.geometry;
     let staging = loan::staging(&geometry, staging)?;
     let out = loan::sector_mut(out)?;
+    let tags = rule.ready()?;
     if matches!(state.phase, Phase::Recovering { .. }) {
         return Err(Refusal::NotNow);
     }
@@ -28,11 +30,8 @@ pub fn read(
         return Ok(());
     }
     let data = &sectors[home.data];
-    if !tag::fits(
-        &volume[home.tag..home.tag + geometry.tag_size],
-        sector,
-        data,
-    ) {
+    let tag = &volume[home.tag..home.tag + geometry.tag_size];
+    if !tags.fit(tag, sector, data) {
         return Err(Refusal::Tag { sector });
     }
     *out = *data;

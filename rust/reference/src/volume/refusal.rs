@@ -5,7 +5,7 @@
 pub enum Refusal {
     /// Lent bytes have a wrong length, or the state isn't sound.
     LengthOrState,
-    /// A parameter is out of range.
+    /// A parameter, or the key's length, is out of range.
     Parameter,
     /// Format: there is something in the superblock's place.
     SuperblockNotZero,

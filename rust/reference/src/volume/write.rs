@@ -1,8 +1,7 @@
 //! Writing a sector into the batch.
 
 use super::section::{self, Entry};
-use super::{digest_of_sector, loan};
-use super::{Phase, Refusal, State};
+use super::{loan, Phase, Refusal, State, TagRule};
 
 /// Adds an entry to the batch in staging, also when the sector is already there.
 pub fn write(
@@ -10,10 +9,12 @@ pub fn write(
     staging: &mut [u8],
     sector: u64,
     bytes: &[u8],
+    rule: TagRule,
 ) -> Result<(), Refusal> {
     let geometry = state.sound()?;
     let staging = loan::staging_mut(&geometry, staging)?;
     let data = loan::sector(bytes)?;
+    let tags = rule.ready()?;
     if state.phase != Phase::Filling {
         return Err(Refusal::NotNow);
     }
@@ -28,7 +29,7 @@ pub fn write(
     let new = Entry {
         sector,
         data: *data,
-        tag: digest_of_sector(sector, data)[..geometry.tag_size].to_vec(),
+        tag: tags.of_sector(sector, data)[..geometry.tag_size].to_vec(),
     };
     section::put_entry(&geometry, staging, entry, &new);
     state.count += 1;

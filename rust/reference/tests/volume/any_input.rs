@@ -4,7 +4,7 @@
 use crate::calls;
 use random::{cases, Random};
 use reference::volume::{advance, check, query, Advanced, Layout, Phase, Refusal};
-use reference::volume::{Said, State, Stepped};
+use reference::volume::{Said, State, Stepped, TagRule};
 use volumes::any::{any_layout, any_number, any_staging, any_state, any_volume};
 use volumes::any::{small_layout, with_journal};
 use volumes::{empty_staging, geometry};
@@ -254,7 +254,7 @@ fn check_at_once() {
                 volume[place] = random.number() as u8;
             }
         }
-        let answer = check(&volume, layout.reserved);
+        let answer = check(&volume, layout.reserved, TagRule::Digest);
         let expected = checked_by_calls(&volume, layout.reserved);
         assert_eq!(
             answer.map(|checked| (checked.stores, checked.bad)),

@@ -1,10 +1,15 @@
-//! The calls, each with a check of what it changed: nothing if it was refused, else only what it may.
+//! The calls, each with a check of what it changed: nothing if it was refused, else only what it may. Those that make or test a
+//! tag are here by any rule too.
 
-use reference::volume::{self, Flushed, Layout, Opened, Phase, Refusal, State, Stepped};
+use reference::volume::{self, Flushed, Layout, Opened, Phase, Refusal, State, Stepped, TagRule};
 
 pub fn format(volume: &mut [u8], layout: &Layout) -> Result<(), Refusal> {
+    format_by(TagRule::Digest, volume, layout)
+}
+
+pub fn format_by(rule: TagRule, volume: &mut [u8], layout: &Layout) -> Result<(), Refusal> {
     let before = volume.to_vec();
-    let answer = volume::format(volume, layout);
+    let answer = volume::format(volume, layout, rule);
     if answer.is_err() {
         assert_eq!(volume, before);
     }
@@ -12,8 +17,17 @@ pub fn format(volume: &mut [u8], layout: &Layout) -> Result<(), Refusal> {
 }
 
 pub fn open(volume: &[u8], reserved: u64, staging: &mut [u8]) -> Result<Opened, Refusal> {
+    open_by(TagRule::Digest, volume, reserved, staging)
+}
+
+pub fn open_by(
+    rule: TagRule,
+    volume: &[u8],
+    reserved: u64,
+    staging: &mut [u8],
+) -> Result<Opened, Refusal> {
     let before = staging.to_vec();
-    let answer = volume::open(volume, reserved, staging);
+    let answer = volume::open(volume, reserved, staging, rule);
     if answer.is_err() {
         assert_eq!(staging, before);
     }
@@ -26,8 +40,18 @@ pub fn write(
     sector: u64,
     bytes: &[u8],
 ) -> Result<(), Refusal> {
+    write_by(TagRule::Digest, state, staging, sector, bytes)
+}
+
+pub fn write_by(
+    rule: TagRule,
+    state: &mut State,
+    staging: &mut [u8],
+    sector: u64,
+    bytes: &[u8],
+) -> Result<(), Refusal> {
     let before = (*state, staging.to_vec());
-    let answer = volume::write(state, staging, sector, bytes);
+    let answer = volume::write(state, staging, sector, bytes, rule);
     match answer {
         Ok(()) => {
             let count = before.0.count + 1;
@@ -101,8 +125,19 @@ pub fn read(
     sector: u64,
     out: &mut [u8],
 ) -> Result<(), Refusal> {
+    read_by(TagRule::Digest, state, volume, staging, sector, out)
+}
+
+pub fn read_by(
+    rule: TagRule,
+    state: &State,
+    volume: &[u8],
+    staging: &[u8],
+    sector: u64,
+    out: &mut [u8],
+) -> Result<(), Refusal> {
     let before = out.to_vec();
-    let answer = volume::read(state, volume, staging, sector, out);
+    let answer = volume::read(state, volume, staging, sector, out, rule);
     if answer.is_err() {
         assert_eq!(out, before);
     }

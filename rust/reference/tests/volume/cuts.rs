@@ -3,6 +3,7 @@
 use crate::world::World;
 use random::{cases, Random};
 use reference::volume::{Layout, Said};
+use volumes::keyed::any_key;
 
 /// Batches of sectors, written and flushed one after the other.
 type Batches<'a> = &'a [&'a [u64]];
@@ -42,8 +43,7 @@ fn cut_each_recovery_store(world: &World, random: &mut Random) {
     }
 }
 
-fn cut_after_each_store(layout: Layout, batches: Batches, random: &mut Random) {
-    let mut world = World::new(layout, 1);
+fn cut_after_each_store(mut world: World, batches: Batches, random: &mut Random) {
     world.open(random);
     for batch in batches {
         for sector in *batch {
@@ -69,7 +69,9 @@ fn cut_after_each_store_of_short_histories() {
                 sections,
                 provided: 10,
             };
-            cut_after_each_store(layout, batches, random);
+            cut_after_each_store(World::new(layout, 1), batches, random);
+            let key = Some(any_key(random));
+            cut_after_each_store(World::under(key, layout, 1), batches, random);
         }
     });
 }

@@ -3,7 +3,8 @@
 use crate::calls;
 use crate::world::World;
 use random::cases;
-use reference::volume::{check, Checked, Flushed, Home, Layout, Refusal, Said, VOLUME_LIMIT};
+use reference::volume::{check, Checked, Flushed, Home, Layout, Refusal, Said};
+use reference::volume::{TagRule, VOLUME_LIMIT};
 use volumes::{formatted, geometry, section, Entry};
 
 /// r 0, T 32, N 16, S 1, P 16.
@@ -209,10 +210,10 @@ fn check_of_a_fresh_image() {
         stores: 0,
         bad,
     };
-    assert_eq!(check(&image, 0), Ok(expected(vec![])));
+    assert_eq!(check(&image, 0, TagRule::Digest), Ok(expected(vec![])));
     image[109 * 512] ^= 1;
     image[96 * 512 + 3 * 32] ^= 1;
-    assert_eq!(check(&image, 0), Ok(expected(vec![3, 5])));
+    assert_eq!(check(&image, 0, TagRule::Digest), Ok(expected(vec![3, 5])));
 }
 
 /// Each parameter's range, and the limit of a volume.
@@ -286,6 +287,6 @@ fn greatest_volume() {
     assert_eq!(sectors, VOLUME_LIMIT);
     let mut volume = vec![0; VOLUME_LIMIT * 512];
     assert_eq!(calls::format(&mut volume, &layout), Ok(()));
-    let checked = check(&volume, 64).unwrap();
+    let checked = check(&volume, 64, TagRule::Digest).unwrap();
     assert_eq!((checked.stores, checked.bad), (0, vec![]));
 }

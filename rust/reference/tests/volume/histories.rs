@@ -5,6 +5,7 @@ use random::{cases, Random};
 use reference::volume::ledger::Ledger;
 use reference::volume::{Layout, Phase};
 use volumes::any::small_layout;
+use volumes::keyed::{any_key, wrong_key_length};
 
 /// Few sectors of a volume, so that the same one is often written twice.
 fn sector(random: &mut Random, layout: &Layout) -> u64 {
@@ -34,6 +35,11 @@ fn refused_writes(world: &mut World, random: &mut Random) {
     assert!(world.write(u64::MAX, &random.bytes(512)).is_err());
     let length = random.pick(&[0, 511, 513, 1024]);
     assert!(world.write(0, &random.bytes(length)).is_err());
+    for length in [512, length] {
+        let sector = sector(random, &world.layout);
+        let key_length = wrong_key_length(random);
+        world.calls_with_a_refused_key(sector, &random.bytes(length), key_length);
+    }
 }
 
 fn steps(world: &mut World, random: &mut Random) {
@@ -69,6 +75,8 @@ fn cuts(world: &mut World, random: &mut Random) {
     world.check_whole();
     while random.number().is_multiple_of(3) {
         world.open_with_wrong_staging(random);
+        let length = wrong_key_length(random);
+        world.open_with_a_refused_key(random, length);
     }
     while random.number().is_multiple_of(2) {
         let stores = world.open(random) as usize;
@@ -80,11 +88,28 @@ fn cuts(world: &mut World, random: &mut Random) {
     world.open(random);
 }
 
+/// A key of any kind, or none.
+type Key = fn(&mut Random) -> Option<Vec<u8>>;
+
+const NONE: Key = |_| None;
+
+const ANY: Key = |random| Some(any_key(random));
+
 #[test]
 fn random_histories() {
+    histories(NONE);
+}
+
+#[test]
+fn random_histories_under_a_key() {
+    histories(ANY);
+}
+
+fn histories(key: Key) {
     cases(200, |random| {
         let layout = small_layout(random);
-        let mut world = World::new(layout, random.length(0..=2));
+        let behind = random.length(0..=2);
+        let mut world = World::under(key(random), layout, behind);
         world.open(random);
         for _ in 0..random.length(1..=60) {
             match random.number() % 16 {
@@ -105,11 +130,10 @@ fn random_histories() {
 
 /// Batches of a few entries, one after the other, with a cut somewhere in most: sections are used again and again, and
 /// torn attempts lie beside whole ones.
-#[test]
-fn many_short_batches() {
+fn short_batches(key: Key) {
     cases(60, |random| {
         let layout = small_layout(random);
-        let mut world = World::new(layout, 0);
+        let mut world = World::under(key(random), layout, 0);
         world.open(random);
         for _ in 0..12 {
             if world.phase() != Some(Phase::Filling) {
@@ -129,4 +153,14 @@ fn many_short_batches() {
             }
         }
     });
+}
+
+#[test]
+fn many_short_batches() {
+    short_batches(NONE);
+}
+
+#[test]
+fn many_short_batches_under_a_key() {
+    short_batches(ANY);
 }

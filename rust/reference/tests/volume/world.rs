@@ -4,11 +4,13 @@
 use crate::calls;
 use random::Random;
 use reference::volume::ledger::{Event, Ledger, Record};
-use reference::volume::{check, digest_of_sector, Flushed, Geometry, Layout, Phase, Refusal};
-use reference::volume::{Said, State, Stepped};
+use reference::volume::{check, Flushed, Geometry, Layout, Phase, Refusal};
+use reference::volume::{Said, State, Stepped, TagRule};
 
 #[derive(Clone)]
 pub struct World {
+    /// The key of every call, if there is one.
+    key: Option<Vec<u8>>,
     pub layout: Layout,
     pub geometry: Geometry,
     /// The volume as format left it.
@@ -22,10 +24,23 @@ pub struct World {
     stores_to_come: u64,
 }
 
+/// The rule of a key, or of none.
+pub fn rule(key: &Option<Vec<u8>>) -> TagRule<'_> {
+    match key {
+        Some(key) => TagRule::Hmac(key),
+        None => TagRule::Digest,
+    }
+}
+
 impl World {
     pub fn new(layout: Layout, behind: usize) -> World {
-        let volume = volumes::formatted(&layout, behind);
+        World::under(None, layout, behind)
+    }
+
+    pub fn under(key: Option<Vec<u8>>, layout: Layout, behind: usize) -> World {
+        let volume = volumes::formatted_by(rule(&key), &layout, behind);
         World {
+            key,
             layout,
             geometry: volumes::geometry(&layout),
             formatted: volume.clone(),
@@ -56,7 +71,9 @@ impl World {
     pub fn open(&mut self, random: &mut Random) -> u64 {
         assert!(self.live.is_none());
         let mut staging = random.bytes(self.geometry.staging_length());
-        let opened = calls::open(&self.volume, self.layout.reserved, &mut staging).unwrap();
+        let rule = rule(&self.key);
+        let opened =
+            calls::open_by(rule, &self.volume, self.layout.reserved, &mut staging).unwrap();
         assert_eq!(opened.state.layout, self.layout);
         assert_eq!(opened.state.count, 0);
         assert!(staging == volumes::empty_staging(&self.geometry));
@@ -79,8 +96,21 @@ impl World {
         let right = self.geometry.staging_length();
         let length = random.pick(&[0, 1, right - 512, right - 1, right + 1, right + 512]);
         let mut staging = random.bytes(length);
-        let answer = calls::open(&self.volume, self.layout.reserved, &mut staging);
+        let rule = rule(&self.key);
+        let answer = calls::open_by(rule, &self.volume, self.layout.reserved, &mut staging);
         assert_eq!(answer, Err(Refusal::LengthOrState));
+        self.record(Event::Open, true);
+    }
+
+    /// An open under a key that no call takes: it is refused.
+    pub fn open_with_a_refused_key(&mut self, random: &mut Random, length: usize) {
+        assert!(self.live.is_none());
+        let key = vec![7; length];
+        let mut staging = random.bytes(self.geometry.staging_length());
+        let refused_key = TagRule::Hmac(&key);
+        let reserved = self.layout.reserved;
+        let answer = calls::open_by(refused_key, &self.volume, reserved, &mut staging);
+        assert_eq!(answer, Err(Refusal::Parameter));
         self.record(Event::Open, true);
     }
 
@@ -97,11 +127,30 @@ impl World {
         } else {
             Ok(())
         };
-        let answer = calls::write(state, staging, sector, bytes);
+        let answer = calls::write_by(rule(&self.key), state, staging, sector, bytes);
         assert_eq!(answer, expected);
         let bytes = bytes.to_vec();
         self.record(Event::Write { sector, bytes }, answer.is_err());
         answer
+    }
+
+    /// A write and a read under a key that no call takes. They are refused, for the key unless state or bytes are, and change nothing.
+    pub fn calls_with_a_refused_key(&mut self, sector: u64, bytes: &[u8], length: usize) {
+        let key = vec![7; length];
+        let refused_key = TagRule::Hmac(&key);
+        let (state, staging) = self.live.as_mut().unwrap();
+        let expected = match bytes.len() {
+            512 => Err(Refusal::Parameter),
+            _ => Err(Refusal::LengthOrState),
+        };
+        let answer = calls::write_by(refused_key, state, staging, sector, bytes);
+        assert_eq!(answer, expected);
+        let (volume, mut out) = (&self.volume, bytes.to_vec());
+        let answer = calls::read_by(refused_key, state, volume, staging, sector, &mut out);
+        assert_eq!(answer, expected);
+        let bytes = bytes.to_vec();
+        self.record(Event::Write { sector, bytes }, true);
+        self.record(Event::Read, true);
     }
 
     pub fn flush(&mut self) -> Result<Flushed, Refusal> {
@@ -176,7 +225,8 @@ impl World {
     fn read_of(&self, sector: u64) -> Result<Vec<u8>, Refusal> {
         let (state, staging) = self.live.as_ref().unwrap();
         let mut out = vec![0x5a; 512];
-        calls::read(state, &self.volume, staging, sector, &mut out)?;
+        let rule = rule(&self.key);
+        calls::read_by(rule, state, &self.volume, staging, sector, &mut out)?;
         Ok(out)
     }
 
@@ -186,8 +236,8 @@ impl World {
             let home = self.geometry.home(sector).unwrap();
             let (data, tag) = (self.data(home.data), self.tag(home.tag));
             assert!(data == content, "sector {sector} is not its content");
-            let digest = digest_of_sector(sector, data.try_into().unwrap());
-            assert!(tag == &digest[..tag.len()], "tag of sector {sector}");
+            let whole = rule(&self.key).of_sector(sector, data.try_into().unwrap());
+            assert!(whole.unwrap().starts_with(tag), "tag of sector {sector}");
             let newest = self.ledger.newest(sector).unwrap();
             assert!(
                 self.read_of(sector).as_ref() == Ok(newest),
@@ -228,7 +278,7 @@ impl World {
 
     /// A check of the whole volume, at any time, finds no bad sector and leaves as many stores as an open reports.
     pub fn check_whole(&self) {
-        let checked = check(&self.volume, self.layout.reserved).unwrap();
+        let checked = check(&self.volume, self.layout.reserved, rule(&self.key)).unwrap();
         assert_eq!(checked.layout, self.layout);
         assert_eq!(checked.bad, []);
     }

@@ -1,13 +1,14 @@
 //! `gaffreel check`: the lines of document 01, "Bench program", for an image of any size.
 
-use super::{reserved, Command, RESERVED};
+use super::{reserved, tags, Command, KEY_FILE, RESERVED};
 use crate::arguments::{Arguments, Options};
 use crate::failure::{Failure, Outcome};
 use crate::files;
 use crate::progress::Progress;
-use crate::volume::Volume;
+use crate::volume::{Tags, Volume};
 use gaffreel::Refusal;
-use std::io::Write;
+use std::io::{self, Write};
+use std::path::Path;
 
 /// The command.
 pub const COMMAND: Command = Command {
@@ -19,12 +20,13 @@ Opens the image, finishes its recovery in memory and reads every sector. The ima
 Prints the parameters, the number of stores of the recovery, a line for each bad sector and their
 number; or `refused` and the number of the refusal.
 
-  --reserved R  sectors before the superblock: 0 to 64 (default 0)
+  --reserved R     sectors before the superblock: 0 to 64 (default 0)
+  --key-file FILE  test tags with the key in FILE: all its bytes, 1 to 256, a newline at its end too
 
 Exit status: 0 no bad sector; 1 bad sectors; 2 refused; 3 usage, or the image cannot be read.
 ",
     options: Options {
-        valued: &[RESERVED],
+        valued: &[RESERVED, KEY_FILE],
         plain: &[],
     },
     run,
@@ -32,15 +34,16 @@ Exit status: 0 no bad sector; 1 bad sectors; 2 refused; 3 usage, or the image ca
 
 fn run(mut arguments: Arguments, out: &mut dyn Write) -> Result<Outcome, Failure> {
     let reserved = reserved(&arguments)?;
+    let tags = tags(&arguments)?;
     let path = arguments.path("IMAGE")?;
     arguments.finish()?;
 
     let bytes = files::read_image(&path)?;
-    let volume = match Volume::recovered(bytes, reserved) {
+    let volume = match tags.recovered(bytes, reserved) {
         Ok(volume) => volume,
         Err(refusal) => {
             writeln!(out, "refused {}", refusal.number())?;
-            return Err(Failure::refused(&path, refusal));
+            return Err(tags.refused(&path, refusal));
         }
     };
     let layout = volume.layout();
@@ -56,10 +59,23 @@ fn run(mut arguments: Arguments, out: &mut dyn Write) -> Result<Outcome, Failure
         writeln!(out, "bad-sector {sector}")?;
     }
     writeln!(out, "bad {}", bad.len())?;
-    Ok(match bad.is_empty() {
-        true => Outcome::Clean,
-        false => Outcome::Bad,
-    })
+    if bad.is_empty() {
+        return Ok(Outcome::Clean);
+    }
+    warn_of_key(&path, &tags);
+    Ok(Outcome::Bad)
+}
+
+/// Says, where there are bad sectors under a key, that it may be the key's fault.
+fn warn_of_key(path: &Path, tags: &Tags) {
+    if let Tags::Hmac(_) = tags {
+        let path = path.display();
+        // There is no place left to say that standard error cannot be written.
+        let _ = writeln!(
+            io::stderr(),
+            "gaffreel: {path}: bad sectors under this key: where none is good, the key may be wrong"
+        );
+    }
 }
 
 /// The sectors that a read refuses with 7.

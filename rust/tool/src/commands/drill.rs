@@ -4,17 +4,18 @@ mod contents;
 mod cuts;
 mod history;
 
-use super::{counted, reserved, Command, RESERVED};
+use super::{counted, reserved, tags, Command, KEY_FILE, RESERVED};
 use crate::arguments::{Arguments, Options};
 use crate::failure::{Failure, Outcome};
 use crate::files;
 use crate::layout::sizes;
 use crate::progress::Progress;
-use crate::volume::{write_batch, Volume};
+use crate::volume::{write_batch, Tags, Volume};
 use contents::Contents;
 use cuts::{Cuts, Lost};
 use gaffreel::Refusal;
 use history::Batch;
+use std::ffi::OsString;
 use std::io::{self, Write};
 
 const SEED: &str = "--seed";
@@ -39,12 +40,14 @@ at the start must stay refused until it is written. The image is not changed.
                      a section of the journal
   --recovery-cuts N  most cuts of each recovery, spread evenly (default after every store)
   --reserved R       sectors before the superblock: 0 to 64 (default 0)
+  --key-file FILE    make and test tags with the key in FILE: all its bytes, 1 to 256, a newline at
+                     its end too
 
 Exit status: 0 every cut survived; 1 a cut was not survived; 2 refused; 3 usage, or the image
 cannot be read.
 ",
     options: Options {
-        valued: &[SEED, BATCHES, WRITES, RECOVERY_CUTS, RESERVED],
+        valued: &[SEED, BATCHES, WRITES, RECOVERY_CUTS, RESERVED, KEY_FILE],
         plain: &[],
     },
     run,
@@ -57,13 +60,14 @@ struct Settings {
     batches: u64,
     writes: u64,
     recovery_cuts: Option<u64>,
+    key_file: Option<OsString>,
 }
 
 /// A drill under way.
-struct Drill {
+struct Drill<'a> {
     volume: Volume,
     contents: Contents,
-    cuts: Cuts,
+    cuts: Cuts<'a>,
     /// The stores made so far.
     stores: u64,
     /// The length of a section, M: the store of a batch that acknowledges it.
@@ -84,15 +88,17 @@ fn run(mut arguments: Arguments, out: &mut dyn Write) -> Result<Outcome, Failure
         batches: arguments.number(BATCHES, 1..=1000)?.unwrap_or(8),
         writes: arguments.number(WRITES, 1..=160)?.unwrap_or(16),
         recovery_cuts: arguments.number(RECOVERY_CUTS, 0..=u64::MAX)?,
+        key_file: arguments.value(KEY_FILE).map(|name| name.to_os_string()),
     };
+    let tags = tags(&arguments)?;
     let path = arguments.path("IMAGE")?;
     arguments.finish()?;
 
-    let refused = |refusal| Failure::refused(&path, refusal);
-    let volume =
-        Volume::recovered(files::read_image(&path)?, settings.reserved).map_err(refused)?;
+    let refused = |refusal| tags.refused(&path, refusal);
+    let bytes = files::read_image(&path)?;
+    let volume = tags.recovered(bytes, settings.reserved).map_err(refused)?;
     let history = settings.history(&volume);
-    let mut drill = Drill::new(volume, &settings, &history).map_err(refused)?;
+    let mut drill = Drill::new(volume, &tags, &settings, &history).map_err(refused)?;
     let played = drill.play(&history);
     let Drill { cuts, stores, .. } = drill;
     writeln!(out, "seed {}", settings.seed)?;
@@ -131,15 +137,19 @@ fn report(out: &mut dyn Write, settings: &Settings, stores: u64, lost: &Lost) ->
         batches,
         writes,
         recovery_cuts,
+        key_file,
     } = settings;
     write!(
         out,
         "again, with the image as it is: {RESERVED} {reserved} {SEED} {seed} {BATCHES} {batches} {WRITES} {writes}"
     )?;
-    match recovery_cuts {
-        Some(most) => writeln!(out, " {RECOVERY_CUTS} {most}"),
-        None => writeln!(out),
+    if let Some(most) = recovery_cuts {
+        write!(out, " {RECOVERY_CUTS} {most}")?;
     }
+    if let Some(name) = key_file {
+        write!(out, " {KEY_FILE} {}", name.display())?;
+    }
+    writeln!(out)
 }
 
 impl Settings {
@@ -152,8 +162,13 @@ impl Settings {
     }
 }
 
-impl Drill {
-    fn new(volume: Volume, settings: &Settings, history: &[Batch]) -> Result<Drill, Refusal> {
+impl Drill<'_> {
+    fn new<'a>(
+        volume: Volume,
+        tags: &'a Tags,
+        settings: &Settings,
+        history: &[Batch],
+    ) -> Result<Drill<'a>, Refusal> {
         let contents = Contents::of(&volume)?;
         let section_sectors = sizes(volume.layout()).section_sectors as u64;
         let stores = history
@@ -162,7 +177,7 @@ impl Drill {
         let progress = Progress::new("drilling", stores.sum::<u64>() + 1);
         let most = settings.recovery_cuts.unwrap_or(u64::MAX);
         Ok(Drill {
-            cuts: Cuts::new(&volume, most),
+            cuts: Cuts::new(&volume, tags, most),
             volume,
             contents,
             stores: 0,

@@ -1,12 +1,12 @@
 //! `gaffreel dump`.
 
-use super::{counted, reserved, Command, RESERVED};
+use super::{counted, reserved, tags, Command, KEY_FILE, RESERVED};
 use crate::arguments::{Arguments, Options};
 use crate::failure::{Failure, Outcome};
 use crate::files;
 use crate::journal::{self, Condition, Entry, Section};
 use crate::layout::{sizes, Sizes};
-use crate::volume::Volume;
+use crate::volume::Tags;
 use gaffreel::volume::{query, Layout, SECTOR_LENGTH};
 use gaffreel::Refusal;
 use std::io::{self, Write};
@@ -22,11 +22,12 @@ Usage: gaffreel dump IMAGE [OPTION]...
 Shows the numbers of the superblock and what follows from them, each section of the journal, and
 what an open would replay. The image is not changed.
 
-  --entries     show each used entry: its sector, and whether its tag fits
-  --reserved R  sectors before the superblock: 0 to 64 (default 0)
+  --entries        show each used entry: its sector, and whether its tag fits
+  --reserved R     sectors before the superblock: 0 to 64 (default 0)
+  --key-file FILE  test tags with the key in FILE: all its bytes, 1 to 256, a newline at its end too
 ",
     options: Options {
-        valued: &[RESERVED],
+        valued: &[RESERVED, KEY_FILE],
         plain: &[ENTRIES],
     },
     run,
@@ -34,12 +35,13 @@ what an open would replay. The image is not changed.
 
 fn run(mut arguments: Arguments, out: &mut dyn Write) -> Result<Outcome, Failure> {
     let reserved = reserved(&arguments)?;
+    let tags = tags(&arguments)?;
     let with_entries = arguments.has(ENTRIES);
     let path = arguments.path("IMAGE")?;
     arguments.finish()?;
 
     let bytes = files::read_image(&path)?;
-    show(out, bytes, reserved, with_entries)?.map_err(|refusal| Failure::refused(&path, refusal))
+    show(out, bytes, reserved, &tags, with_entries)?.map_err(|refusal| tags.refused(&path, refusal))
 }
 
 /// Shows all that can be, and gives how the command ends.
@@ -47,6 +49,7 @@ fn show(
     out: &mut dyn Write,
     bytes: Vec<u8>,
     reserved: u64,
+    tags: &Tags,
     with_entries: bool,
 ) -> io::Result<Result<Outcome, Refusal>> {
     let layout = match query(&bytes, reserved) {
@@ -61,12 +64,12 @@ fn show(
     for section in &sections {
         show_section(out, section)?;
         if with_entries {
-            show_entries(out, &section.entries)?;
+            show_entries(out, &section.entries, tags)?;
         }
     }
     writeln!(out)?;
     show_replay(out, &sections)?;
-    match Volume::open(bytes, reserved) {
+    match tags.open(bytes, reserved) {
         Ok(volume) => {
             let stores = counted(volume.stores_to_come(), "store");
             writeln!(out, "open: taken, {stores} to come")?;
@@ -116,9 +119,9 @@ fn show_section(out: &mut dyn Write, section: &Section) -> io::Result<()> {
     }
 }
 
-fn show_entries(out: &mut dyn Write, entries: &[Entry]) -> io::Result<()> {
+fn show_entries(out: &mut dyn Write, entries: &[Entry], tags: &Tags) -> io::Result<()> {
     for entry in entries {
-        let fits = match entry.fits() {
+        let fits = match entry.fits(tags) {
             Some(true) => "the tag fits",
             Some(false) => "the tag does not fit",
             None => "the scan does not reach the data",

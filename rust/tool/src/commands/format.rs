@@ -1,11 +1,11 @@
 //! `gaffreel format`.
 
-use super::{reserved, Command, RESERVED};
+use super::{reserved, tags, Command, KEY_FILE, RESERVED};
 use crate::arguments::{Arguments, Options};
 use crate::failure::{Failure, Outcome};
 use crate::files;
 use crate::layout::sizes;
-use gaffreel::volume::{self, Layout, MOST_SECTORS, SECTOR_LENGTH};
+use gaffreel::volume::{Layout, MOST_SECTORS, SECTOR_LENGTH};
 use gaffreel::Refusal;
 use std::io::Write;
 use std::path::Path;
@@ -31,9 +31,12 @@ volume needs. A file that is there keeps its length; the place of its superblock
   --sectors P       sectors that the volume provides: 1 to 65536 (default 16)
   --reserved R      sectors before the superblock that are never touched: 0 to 64 (default 0)
   --length SECTORS  length of a new image: up to 65536 (default as long as needed)
+  --key-file FILE   make tags with the key in FILE: all its bytes, 1 to 256, a newline at its end
+                    too. The image keeps neither the key nor that it has one: every command on it
+                    needs the same key
 ",
     options: Options {
-        valued: &[TAG_SIZE, RUN, SECTIONS, SECTORS, RESERVED, LENGTH],
+        valued: &[TAG_SIZE, RUN, SECTIONS, SECTORS, RESERVED, LENGTH, KEY_FILE],
         plain: &[],
     },
     run,
@@ -42,6 +45,7 @@ volume needs. A file that is there keeps its length; the place of its superblock
 fn run(mut arguments: Arguments, out: &mut dyn Write) -> Result<Outcome, Failure> {
     let layout = layout(&arguments)?;
     let length = arguments.number(LENGTH, 1..=MOST_SECTORS as u64)?;
+    let tags = tags(&arguments)?;
     let path = arguments.path("IMAGE")?;
     arguments.finish()?;
 
@@ -54,7 +58,8 @@ fn run(mut arguments: Arguments, out: &mut dyn Write) -> Result<Outcome, Failure
             vec![0; sectors * SECTOR_LENGTH]
         }
     };
-    volume::format(&mut bytes, &layout).map_err(|refusal| refused(&path, refusal))?;
+    tags.format(&mut bytes, &layout)
+        .map_err(|refusal| refused(&path, refusal))?;
     files::replace(&path, &bytes)?;
     writeln!(
         out,

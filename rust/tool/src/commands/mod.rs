@@ -11,8 +11,12 @@ mod write;
 
 use crate::arguments::{Arguments, Options};
 use crate::failure::{Failure, Outcome};
+use crate::files;
+use crate::volume::Tags;
+use gaffreel::LONGEST_KEY;
 use std::ffi::{OsStr, OsString};
 use std::io::Write;
+use std::path::Path;
 
 /// A command.
 pub struct Command {
@@ -68,6 +72,29 @@ const RESERVED: &str = "--reserved";
 /// The number of reserved sectors; 0 if it is not given.
 fn reserved(arguments: &Arguments) -> Result<u64, Failure> {
     Ok(arguments.number(RESERVED, 0..=64)?.unwrap_or(0))
+}
+
+/// The option for the file that has the key. It is no word of the command line, which other users of the machine can see.
+const KEY_FILE: &str = "--key-file";
+
+/// What makes and tests the tags: the key in the file that is named, if one is.
+fn tags(arguments: &Arguments) -> Result<Tags, Failure> {
+    let Some(name) = arguments.value(KEY_FILE) else {
+        return Ok(Tags::Digest);
+    };
+    let path = Path::new(name);
+    let key = files::read_at_most(path, LONGEST_KEY as u64 + 1)?;
+    if key.is_empty() || key.len() > LONGEST_KEY {
+        let fault = match key.len() {
+            0 => "is empty",
+            _ => "is too long for a key",
+        };
+        let reason = format!(
+            "{fault}: all bytes of the file are the key, a newline at its end too, and a key has 1 to {LONGEST_KEY}"
+        );
+        return Err(Failure::file(path, reason));
+    }
+    Ok(Tags::Hmac(key))
 }
 
 /// A number with the word for what is counted, which is put in the plural by an s.

@@ -1,10 +1,9 @@
 //! `gaffreel recover`.
 
-use super::{counted, reserved, Command, RESERVED};
+use super::{counted, reserved, tags, Command, KEY_FILE, RESERVED};
 use crate::arguments::{Arguments, Options};
 use crate::failure::{Failure, Outcome};
 use crate::files;
-use crate::volume::Volume;
 use std::io::Write;
 
 /// The command.
@@ -16,10 +15,11 @@ Usage: gaffreel recover IMAGE [OPTION]...
 Opens the image, makes all stores of its recovery and replaces it. The journal keeps its sections
 until they are written again, so a further recovery makes the same stores and changes nothing.
 
-  --reserved R  sectors before the superblock: 0 to 64 (default 0)
+  --reserved R     sectors before the superblock: 0 to 64 (default 0)
+  --key-file FILE  test tags with the key in FILE: all its bytes, 1 to 256, a newline at its end too
 ",
     options: Options {
-        valued: &[RESERVED],
+        valued: &[RESERVED, KEY_FILE],
         plain: &[],
     },
     run,
@@ -27,12 +27,14 @@ until they are written again, so a further recovery makes the same stores and ch
 
 fn run(mut arguments: Arguments, out: &mut dyn Write) -> Result<Outcome, Failure> {
     let reserved = reserved(&arguments)?;
+    let tags = tags(&arguments)?;
     let path = arguments.path("IMAGE")?;
     arguments.finish()?;
 
     let before = files::read_image(&path)?;
-    let volume = Volume::recovered(before.clone(), reserved)
-        .map_err(|refusal| Failure::refused(&path, refusal))?;
+    let volume = tags
+        .recovered(before.clone(), reserved)
+        .map_err(|refusal| tags.refused(&path, refusal))?;
     let stores = match volume.stores_to_come() {
         0 => {
             writeln!(out, "nothing to replay: the image is left as it was")?;

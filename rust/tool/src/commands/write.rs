@@ -1,6 +1,6 @@
 //! `gaffreel write`.
 
-use super::{counted, reserved, Command, RESERVED};
+use super::{counted, reserved, tags, Command, KEY_FILE, RESERVED};
 use crate::arguments::{Arguments, Options};
 use crate::failure::{Failure, Outcome};
 use crate::files;
@@ -28,9 +28,12 @@ image is recovered first. A batch has as many sectors as a section of the journa
   --input FILE        read from FILE instead; - is standard input
   --cut-after STORES  stop after so many stores of the write, as a power cut would
   --reserved R        sectors before the superblock: 0 to 64 (default 0)
+  --key-file FILE     make and test tags with the key in FILE: all its bytes, 1 to 256, a newline
+                      at its end too. A wrong key shows only where the journal has something to
+                      replay: run gaffreel check before
 ",
     options: Options {
-        valued: &[INPUT, CUT_AFTER, RESERVED],
+        valued: &[INPUT, CUT_AFTER, RESERVED, KEY_FILE],
         plain: &[],
     },
     run,
@@ -46,6 +49,7 @@ struct Written {
 
 fn run(mut arguments: Arguments, out: &mut dyn Write) -> Result<Outcome, Failure> {
     let reserved = reserved(&arguments)?;
+    let tags = tags(&arguments)?;
     let cut_after = arguments.number(CUT_AFTER, 0..=u64::MAX)?;
     let input = arguments.value(INPUT).map(|name| name.to_os_string());
     let path = arguments.path("IMAGE")?;
@@ -53,8 +57,9 @@ fn run(mut arguments: Arguments, out: &mut dyn Write) -> Result<Outcome, Failure
     arguments.finish()?;
 
     let before = files::read_image(&path)?;
-    let mut volume = Volume::recovered(before.clone(), reserved)
-        .map_err(|refusal| Failure::refused(&path, refusal))?;
+    let mut volume = tags
+        .recovered(before.clone(), reserved)
+        .map_err(|refusal| tags.refused(&path, refusal))?;
     let bytes = whole_sectors(input.as_deref())?;
     let (sectors, _) = bytes.as_chunks();
     all_provided(&path, &volume, first, sectors.len() as u64)?;
@@ -90,7 +95,7 @@ fn all_provided(path: &Path, volume: &Volume, first: u64, count: u64) -> Result<
         Some(end) if end <= provided => Ok(()),
         _ => {
             let beyond = first.max(provided);
-            Err(Failure::refused_sector(path, Refusal::Sector, beyond))
+            Err(Failure::no_sector(path, beyond))
         }
     }
 }

@@ -3,12 +3,15 @@
 use super::{next_id, replay_order, sections, Condition, Entry, Section};
 use crate::layout::tests::wrapped;
 use crate::layout::{sizes, Sizes};
+use crate::volume::Tags;
 use random::{Random, Reached};
-use reference::volume::{Geometry, Opened, Refusal};
+use reference::volume::{Geometry, Opened, Refusal, TagRule};
 use volumes::any::{small_layout, with_journal};
+use volumes::keyed::{any_key, retag};
 
-/// A volume with a journal of any kind, and what the reference's open says of it.
+/// A volume with a journal of any kind, half of them with a key, and what the reference's open says of it.
 struct Case {
+    tags: Tags,
     volume: Vec<u8>,
     staging: Vec<u8>,
     geometry: Geometry,
@@ -18,11 +21,21 @@ struct Case {
 
 fn case(random: &mut Random) -> Case {
     let layout = small_layout(random);
-    let volume = with_journal(random, &layout);
+    let mut volume = with_journal(random, &layout);
     let geometry = layout.geometry().unwrap();
     let mut staging = vec![0; geometry.staging_length()];
-    let opened = reference::volume::open(&volume, layout.reserved, &mut staging);
+    let tags = match random.number() % 2 {
+        0 => Tags::Digest,
+        _ => Tags::Hmac(any_key(random)),
+    };
+    let rule = match &tags {
+        Tags::Digest => TagRule::Digest,
+        Tags::Hmac(key) => TagRule::Hmac(key),
+    };
+    retag(&mut volume, &layout, rule);
+    let opened = reference::volume::open(&volume, layout.reserved, &mut staging, rule);
     Case {
+        tags,
         volume,
         staging,
         geometry,
@@ -32,7 +45,7 @@ fn case(random: &mut Random) -> Case {
 }
 
 /// What open must say of these sections: the next id and the number of stores, or refusal 10, 11, 6 or 7.
-fn expected(sections: &[Section], geometry: &Geometry) -> Result<(u64, u64), Refusal> {
+fn expected(sections: &[Section], geometry: &Geometry, tags: &Tags) -> Result<(u64, u64), Refusal> {
     let id = next_id(sections).ok_or(Refusal::IdsUsedUp)?;
     let mut whole = sections
         .iter()
@@ -45,14 +58,14 @@ fn expected(sections: &[Section], geometry: &Geometry) -> Result<(u64, u64), Ref
     let mut stores = 0;
     for section in replay_order(sections) {
         for entry in &section.entries {
-            test(section, entry, geometry)?;
+            test(section, entry, geometry, tags)?;
             stores += 2;
         }
     }
     Ok((id, stores))
 }
 
-fn test(section: &Section, entry: &Entry, geometry: &Geometry) -> Result<(), Refusal> {
+fn test(section: &Section, entry: &Entry, geometry: &Geometry, tags: &Tags) -> Result<(), Refusal> {
     let (section, place) = (section.number as u64, entry.place as u64);
     if entry.sector >= geometry.provided as u64 {
         return Err(Refusal::JournalSector {
@@ -60,7 +73,7 @@ fn test(section: &Section, entry: &Entry, geometry: &Geometry) -> Result<(), Ref
             entry: place,
         });
     }
-    match entry.fits() {
+    match entry.fits(tags) {
         Some(true) => Ok(()),
         _ => Err(Refusal::JournalTag {
             section,
@@ -79,7 +92,7 @@ fn next_id_stores_and_refusals_are_those_of_open() {
         let said = case
             .opened
             .map(|opened| (opened.state.id, opened.stores_to_come));
-        assert_eq!(expected(&sections, &case.geometry), said);
+        assert_eq!(expected(&sections, &case.geometry, &case.tags), said);
         reached.add(said.is_err());
     });
     reached.assert_each(50, [false, true]);
@@ -135,7 +148,8 @@ fn conditions_of_sections() {
     let found = sections(&volume, &sizes);
     let section = |number: usize| {
         let entries = found[number].entries.iter();
-        let fits: Vec<_> = entries.map(|entry| (entry.sector, entry.fits())).collect();
+        let fits = entries.map(|entry| (entry.sector, entry.fits(&Tags::Digest)));
+        let fits: Vec<_> = fits.collect();
         (found[number].condition, fits)
     };
     let torn = |stop, id| Condition::Torn { stop, id };

@@ -36,7 +36,7 @@ fn help_and_version() {
 }
 
 /// Wrong command lines, and what is said of each.
-const WRONG: [(&str, &str); 37] = [
+const WRONG: [(&str, &str); 38] = [
     ("", "a command is missing"),
     ("chekc", "unknown command chekc"),
     ("--hel", "unknown command --hel"),
@@ -51,6 +51,7 @@ const WRONG: [(&str, &str); 37] = [
     ("check a --reserve 1", "unknown option --reserve"),
     ("check a --entries", "unknown option --entries"),
     ("check a --reserved", "--reserved needs a value"),
+    ("check a --key-file", "--key-file needs a value"),
     (
         "check a --reserved 65",
         "--reserved is a number from 0 to 64, not \"65\"",

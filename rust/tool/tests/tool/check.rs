@@ -2,13 +2,13 @@
 
 use crate::setting::{damage, with_sections, Ended, Folder, OTHER, SAMPLE};
 use random::Reached;
-use reference::volume::{check, Checked, Refusal};
+use reference::volume::{check, Checked, Refusal, TagRule};
 use std::fs::File;
 use volumes::any::{any_volume, small_layout, with_journal};
 use volumes::{put_id, Entry};
 
 /// The lines of document 01, "Bench program", and the exit status.
-fn expected(checked: &Result<Checked, Refusal>) -> (i32, String) {
+pub fn expected(checked: &Result<Checked, Refusal>) -> (i32, String) {
     let checked = match checked {
         Ok(checked) => checked,
         Err(refusal) => return (2, format!("refused {}\n", refusal.number())),
@@ -34,7 +34,7 @@ fn agrees(folder: &Folder, volume: &[u8], reserved: u64) -> i32 {
     folder.put("a", volume);
     let number = reserved.to_string();
     let ended = folder.run(&["check", "a", "--reserved", &number]);
-    let (status, lines) = expected(&check(volume, reserved));
+    let (status, lines) = expected(&check(volume, reserved, TagRule::Digest));
     assert_eq!((ended.status, ended.text()), (status, lines.as_str()));
     match status {
         2 => {

@@ -38,7 +38,7 @@ fn each_parameter() {
     let said = format!("formatted {sectors} sectors: tag 8 run 1024 sections 7 provided 3000\n");
     assert_eq!(ended, Ended::good(&said));
     let mut expected = vec![0; sectors * 512];
-    reference::volume::format(&mut expected, &layout).unwrap();
+    reference::volume::format(&mut expected, &layout, reference::volume::TagRule::Digest).unwrap();
     assert!(folder.get("a") == expected);
 }
 

@@ -6,6 +6,7 @@ mod cuts;
 mod drill;
 mod dump;
 mod format;
+mod keyed;
 mod output;
 mod read_and_write;
 mod recover;

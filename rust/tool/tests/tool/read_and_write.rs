@@ -102,7 +102,8 @@ fn what_a_read_refuses() {
     damage(&mut volume, &SAMPLE, 3);
     let folder = Folder::with("a", &volume);
     let bad = folder.run(&["read", "a", "2", "--count", "2", "--output", "out"]);
-    let err = "gaffreel: a: refused 7: the tag of sector 3 does not fit its data: write the sector again from a good copy\n";
+    let err = "gaffreel: a: refused 7: the tag of sector 3 does not fit its data: \
+               if the volume has a key, name its file by --key-file; else write the sector again from a good copy\n";
     assert_eq!(bad, Ended::with(2, "", err));
     let beyond = folder.run(&["read", "a", "15", "--count", "2"]);
     let err = "gaffreel: a: refused 6: sector 16: the volume has no such sector: \

@@ -2,7 +2,7 @@
 
 use crate::setting::{with_sections, Ended, Folder, OTHER, SAMPLE};
 use random::Reached;
-use reference::volume::{open, recover};
+use reference::volume::{open, recover, TagRule};
 use std::fs;
 use std::os::unix::fs::MetadataExt;
 use volumes::any::{small_layout, with_journal};
@@ -47,7 +47,7 @@ fn as_the_reference_recovers() {
         let mut volume = with_journal(random, &layout);
         folder.put("a", &volume);
         let mut staging = vec![0; layout.geometry().unwrap().staging_length()];
-        let expected = open(&volume, layout.reserved, &mut staging)
+        let expected = open(&volume, layout.reserved, &mut staging, TagRule::Digest)
             .and_then(|mut opened| recover(&mut opened.state, &mut volume, &staging));
         let reserved = layout.reserved.to_string();
         let ended = folder.run(&["recover", "a", "--reserved", &reserved]);

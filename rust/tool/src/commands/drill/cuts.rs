@@ -2,12 +2,13 @@
 
 use super::contents::Contents;
 use crate::layout::sizes;
-use crate::volume::Volume;
+use crate::volume::{Tags, Volume};
 use gaffreel::volume::{Said, SECTOR_LENGTH};
 use gaffreel::Refusal;
 
 /// The cuts of a drill.
-pub struct Cuts {
+pub struct Cuts<'a> {
+    tags: &'a Tags,
     reserved: u64,
     /// Most cuts of each recovery.
     most: u64,
@@ -40,11 +41,12 @@ impl Lost {
     }
 }
 
-impl Cuts {
+impl Cuts<'_> {
     /// Of a volume that is recovered.
-    pub fn new(volume: &Volume, most: u64) -> Cuts {
+    pub fn new<'a>(volume: &Volume, tags: &'a Tags, most: u64) -> Cuts<'a> {
         let sizes = sizes(volume.layout());
         Cuts {
+            tags,
             reserved: volume.layout().reserved,
             most,
             front: volume.bytes()[..sizes.journal * SECTOR_LENGTH].to_vec(),
@@ -70,7 +72,8 @@ impl Cuts {
         contents: &Contents,
     ) -> Result<(), Lost> {
         let refused = |refusal: Refusal| Lost::now(refusal.to_string());
-        let mut recovering = Volume::open(left.to_vec(), self.reserved).map_err(refused)?;
+        let recovering = self.tags.open(left.to_vec(), self.reserved);
+        let mut recovering = recovering.map_err(refused)?;
         let total = recovering.stores_to_come();
         let cuts = total.min(self.most);
         let mut made = 0;
@@ -99,7 +102,8 @@ impl Cuts {
     /// Opens what is left and finishes its recovery, which must make as many stores as open says.
     fn recover(&self, left: &[u8]) -> Result<Volume, String> {
         let refused = |refusal: Refusal| format!("refused {}: {refusal}", refusal.number());
-        let mut volume = Volume::open(left.to_vec(), self.reserved).map_err(refused)?;
+        let volume = self.tags.open(left.to_vec(), self.reserved);
+        let mut volume = volume.map_err(refused)?;
         let due = volume.stores_to_come();
         let advanced = volume
             .advance(u64::MAX)

@@ -2,7 +2,7 @@
 
 use super::cuts::{Cuts, Lost};
 use super::{report, Batch, Drill, Settings, Stop};
-use crate::volume::Volume;
+use crate::volume::{Tags, Volume};
 use gaffreel::volume::{self, Layout};
 
 const SETTINGS: Settings = Settings {
@@ -11,6 +11,7 @@ const SETTINGS: Settings = Settings {
     batches: 2,
     writes: 3,
     recovery_cuts: None,
+    key_file: None,
 };
 
 /// A volume just formatted, with a sector behind the last run that has these bytes.
@@ -28,10 +29,11 @@ fn formatted(behind: u8) -> Volume {
     Volume::recovered(bytes, 0).unwrap()
 }
 
-fn drill() -> (Drill, Vec<Batch>) {
+fn drill() -> (Drill<'static>, Vec<Batch>) {
     let volume = formatted(0);
     let history = SETTINGS.history(&volume);
-    (Drill::new(volume, &SETTINGS, &history).unwrap(), history)
+    let drill = Drill::new(volume, &Tags::Digest, &SETTINGS, &history);
+    (drill.unwrap(), history)
 }
 
 fn told(drill: &mut Drill, history: &[Batch]) -> String {
@@ -65,7 +67,7 @@ fn of_a_batch_that_is_acknowledged_too_late() {
 #[test]
 fn of_bytes_outside_journal_and_runs() {
     let (mut drill, history) = drill();
-    drill.cuts = Cuts::new(&formatted(1), u64::MAX);
+    drill.cuts = Cuts::new(&formatted(1), &Tags::Digest, u64::MAX);
     let told = told(&mut drill, &history);
     assert!(told.contains("bytes outside journal and runs were changed"));
 }
@@ -78,6 +80,7 @@ fn of_a_recovery_that_was_cut() {
     };
     let settings = Settings {
         recovery_cuts: Some(9),
+        key_file: Some("key".into()),
         ..SETTINGS
     };
     let mut out = Vec::new();
@@ -85,6 +88,6 @@ fn of_a_recovery_that_was_cut() {
     assert_eq!(
         String::from_utf8(out).unwrap(),
         "not survived: a cut after 90 stores, and one after 1 store of the recovery: sector 3 has other bytes\n\
-         again, with the image as it is: --reserved 0 --seed 5 --batches 2 --writes 3 --recovery-cuts 9\n"
+         again, with the image as it is: --reserved 0 --seed 5 --batches 2 --writes 3 --recovery-cuts 9 --key-file key\n"
     );
 }
