@@ -20,7 +20,7 @@ use Rattle.digest.specs.declared.Updated.{Updated}
 use Rattle.digest.specs.Answer.{answerOf}
 use Rattle.digest.specs.Pieces.{limit, freshOf, absorbOf, UpdateOutcome, updated, refusedPieceOf, updateOf, DigestOutcome, refusedDigestOf, closeOf, finishOf, digestOf}
 use Rattle.digest.specs.Sha256.{sha256}
-use Rattle.digest.specs.Sha256.Promise.{update-taken, update-refused, count-absorb, update-append, closing, digest-taken}
+use Rattle.digest.specs.Sha256.Promise.{update-taken, update-refused, closing, absorb-both, close-whole, digest-taken}
 use Rattle.digest.specs.Padding.{zeroBytesOf, paddingOf, bytesOf}
 
 -- ---- the padding
@@ -110,23 +110,17 @@ module _ (m : List ℕ) (u : Updated) (r : DigestOutcome) (e : updated u ≡ upd
       er ∙ ap (λ (x : UpdateOutcome). finishOf (x .state)) e ∙ closing (m ∷ []) (rw piece fits)
       ∙ ap (λ (x : List ℕ). record { answer = taken tt; digest = sha256 x }) piece ∙ sym (digest-taken m fits)
 
--- a message in two pieces
-module _ (p q : List ℕ) (u v : Updated) (r : DigestOutcome) (e : updated u ≡ updateOf freshOf p) where
-  pub first-past : u .answer ≡ TooLong → r ≡ refusedDigestOf → r ≡ digestOf (p ++ q)
-  first-past a = digest-past (p ++ q) r (omega (arith, rw zero-add at (answer-past freshOf p u e a), length-append p q))
+-- a message in two pieces: two parts behind a state, and then from nothing
 
-  module _ (fitted : u .answer ≡ Taken) (f : updated v ≡ updateOf (u .state) q) where
-    state : u .state ≡ absorbOf freshOf p
-    state = ap (λ (x : UpdateOutcome). x .state) (e ∙ update-taken freshOf p (answer-fits freshOf p u e fitted))
+pub behind : (s a b : State) (p q r : List ℕ) → length (s .tail) ≡ 64 → a ≡ absorbOf s p → b ≡ absorbOf a q → r ≡ closeOf b → r ≡ closeOf (absorbOf s (p ++ q))
+behind s a b p q r full ea eb er = er ∙ ap closeOf (eb ∙ ap (λ (x : State). absorbOf x q) ea ∙ absorb-both s p q full)
 
-    total : u .state .count + length q ≡ length (p ++ q)
-    total = ap (λ (s : State). s .count + length q) state ∙ rw (count-absorb freshOf p, zero-add, length-append)
+pub two-past : (p q : List ℕ) (r : DigestOutcome) → limit < length p + length q → r ≡ refusedDigestOf → r ≡ digestOf (p ++ q)
+two-past p q r h = digest-past (p ++ q) r (omega (arith, h, length-append p q))
 
-    pub both-past : v .answer ≡ TooLong → r ≡ refusedDigestOf → r ≡ digestOf (p ++ q)
-    both-past a = digest-past (p ++ q) r (rw total at (answer-past (u .state) q v f a))
-
-    pub both-fit : v .answer ≡ Taken → r ≡ finishOf (v .state) → r ≡ digestOf (p ++ q)
-    both-fit a =
-        let fits : length (p ++ q) ≤ limit = rw total at (answer-fits (u .state) q v f a) in
-        let all : updated v ≡ updateOf freshOf (p ++ q) = f ∙ ap (λ (x : UpdateOutcome). updateOf (x .state) q) e ∙ update-append freshOf p q refl (rw zero-add fits) in
-        whole-fits (p ++ q) v r all a
+pub two-fit : (p q : List ℕ) (s : State) (d : List ℕ) → length p + length q ≤ limit → s ≡ freshOf → d ≡ closeOf (absorbOf s (p ++ q))
+    → record { answer = taken tt; digest = d } ≡ digestOf (p ++ q)
+two-fit p q s d h es ed =
+    let fits : length (p ++ q) ≤ limit = omega (arith, h, length-append p q) in
+    let is : d ≡ sha256 (p ++ q) = ed ∙ ap (λ (x : State). closeOf (absorbOf x (p ++ q))) es ∙ close-whole (p ++ q) in
+    ap (λ (x : List ℕ). record { answer = taken tt; digest = x }) is ∙ sym (digest-taken (p ++ q) fits)

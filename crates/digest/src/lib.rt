@@ -4,11 +4,13 @@
 // above see by the laws in specs/Sha256/Promise.antt alone.
 mod pieces;
 
+ghost use Prim.Native.Nat.{_+_, _≤_};
 ghost use mathlib.Core.Path.{_≡_};
 ghost use mathlib.Core.List.{_++_};
+ghost use lib.ListN.{length};
 ghost use Rattle.octets.specs.Answer.{numberIn};
 ghost use Rattle.digest.specs.Answer.{answerOf};
-ghost use Rattle.digest.specs.Pieces.{freshOf, updated, refusedPieceOf, updateOf, closed, refusedDigestOf, finishOf, digestOf};
+ghost use Rattle.digest.specs.Pieces.{limit, freshOf, absorbOf, updated, refusedPieceOf, updateOf, closed, refusedDigestOf, closeOf, finishOf, digestOf};
 
 // The length of a digest, in bytes.
 pub const DIGEST_SIZE: usize = 32;
@@ -139,21 +141,31 @@ pub fn sha256(message: &[u8]) -> Closed
     finish(s)
 }
 
+// The digest of what a state holds and of two further parts, all within the limit, which the callers have tested: for the crates here. The states on the
+// way stand in no answer, so it takes less stack than two pieces and a finish.
+pub fn digest_behind(s: State, first: &[u8], second: &[u8]) -> [u8; DIGEST_SIZE]
+    requires { ⌜ s .count + (length (now first) + length (now second)) ≤ limit ⌝ }
+    ensures { λ r. ⌜ r ≡ closeOf (absorbOf s (now (first .entry) ++ now (second .entry))) ⌝ }
+{
+    let one = pieces::absorb(s, first);
+    let both = pieces::absorb(one, second);
+    pieces::close(both)
+}
+
 // The digest of a message that is lent in two parts: a sector's number and its bytes, a salt and a block.
 pub fn sha256_of_two(first: &[u8], second: &[u8]) -> Closed
     ensures { λ r. ⌜ closed r ≡ digestOf (now (first .entry) ++ now (second .entry)) ⌝ }
 {
-    let one = update(fresh(), first);
-    let answer = one.answer;
-    let Answer::Taken = answer else {
+    let before = first.len() as u64;
+    if LIMIT < before {
         return refused_digest();
-    };
-    let s = one.state;
-    let both = update(s, second);
-    let last = both.answer;
-    let Answer::Taken = last else {
+    }
+    if LIMIT - before < second.len() as u64 {
         return refused_digest();
-    };
-    let t = both.state;
-    finish(t)
+    }
+    let digest = digest_behind(fresh(), first, second);
+    Closed {
+        answer: Answer::Taken,
+        digest: digest,
+    }
 }

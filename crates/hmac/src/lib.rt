@@ -132,16 +132,6 @@ fn resume(h: [u32; 8]) -> digest::State
     }
 }
 
-// The outer digest: that of an inner one, behind one block.
-fn outer_digest(h: [u32; 8], inner: [u8; 32]) -> [u8; 32]
-    ensures { λ r. ⌜ r ≡ closeOf (absorbOf (resumed h) inner) ⌝ }
-{
-    let all = digest::update(resume(h), &inner);
-    let s = all.state;
-    let closed = digest::finish(s);
-    closed.digest
-}
-
 // What a kept key gives for a message that is lent in two parts: a sector's number and its bytes.
 pub fn mac_of_two(key: Key, first: &[u8], second: &[u8]) -> [u8; 32]
     requires { ⌜ length (now first) + length (now second) ≤ messageLimit ⌝ }
@@ -149,13 +139,8 @@ pub fn mac_of_two(key: Key, first: &[u8], second: &[u8]) -> [u8; 32]
 {
     let inner = key.inner;
     let outer = key.outer;
-    let one = digest::update(resume(inner), first);
-    let s = one.state;
-    let both = digest::update(s, second);
-    let t = both.state;
-    let closed = digest::finish(t);
-    let bytes = closed.digest;
-    outer_digest(outer, bytes)
+    let digest = digest::digest_behind(resume(inner), first, second);
+    digest::digest_behind(resume(outer), &digest, &[])
 }
 
 // The refusal of a call.

@@ -3,7 +3,7 @@ use mathlib.Core.Bool.{Bool, true, false, not, _&&_}
 use mathlib.Core.List.{List, [], _∷_}
 use mathlib.Core.Path.{_≡_, refl, ap, _∙_}
 use Prim.Native.Nat.{ℕ}
-use Rattle.octets.specs.Answer.{Answer, refuse}
+use Rattle.octets.specs.Answer.{refuse}
 use Rattle.octets.specs.Choice.{pick, firstMet}
 use Rattle.hmac.specs.Hmac.{keyOk}
 use Rattle.on_disk.specs.declared.Layout.{Layout}
@@ -12,7 +12,7 @@ use Rattle.model.specs.declared.State.{State}
 use Rattle.model.specs.Tag.{hmacTagOf}
 use Rattle.model.specs.State.{Verdict, passed, volumeLoanOk, stateOk, volumeOk, stagingOk, sectorOk}
 use Rattle.model.specs.Format.{FormatResult, formatRows, formatBy, formatOf}
-use Rattle.model.specs.Open.{OpenResult, openRows, replayVerdict, openBy, openWith, openOf}
+use Rattle.model.specs.Open.{OpenResult, openRows, replayVerdict, openBy, openWith}
 use Rattle.model.specs.Write.{WriteResult, writeRows, writeBy, writeOf}
 use Rattle.model.specs.Read.{ReadResult, readRows, readBy, readOf}
 use Rattle.model.specs.Keyed.{withKey, formatKeyedOf, openKeyedWith, openKeyedOf, writeKeyedOf, readKeyedOf, AsOverTags, keyRefusal, KeyRefused, KeyedCalls}

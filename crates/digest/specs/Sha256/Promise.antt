@@ -46,13 +46,17 @@ pub count-absorb : (s : State) (p : List ℕ) → absorbOf s p .count ≡ s .cou
 unfolding absorbOf
 count-absorb s p = refl
 
--- two pieces that fit together are as the one that they make
+-- two pieces are as the one that they make, whatever fits
+pub absorb-both : (s : State) (p q : List ℕ) → length (s .tail) ≡ 64 → absorbOf (absorbOf s p) q ≡ absorbOf s (p ++ q)
+absorb-both = absorb-append
+
+-- and where they fit together, the calls take them so
 pub update-append : (s : State) (p q : List ℕ) → length (s .tail) ≡ 64 → s .count + length (p ++ q) ≤ limit
     → updateOf (updateOf s p .state) q ≡ updateOf s (p ++ q)
 update-append s p q full fits =
     let sum : length (p ++ q) ≡ length p + length q = length-append p q in
     let then : absorbOf s p .count + length q ≤ limit = rw (count-absorb s p) (omega arith) in
-    rw (update-taken s p (omega arith), update-taken (absorbOf s p) q then, update-taken s (p ++ q) fits, absorb-append s p q full)
+    rw (update-taken s p (omega arith), update-taken (absorbOf s p) q then, update-taken s (p ++ q) fits, absorb-both s p q full)
 
 -- ---- closing
 
@@ -69,7 +73,7 @@ add-all (p ∷ ps) m fits =
     let sum : length (m ++ (p ++ flatten ps)) ≡ length m + (length p + length (flatten ps)) = rw (length-append, length-append) in
     let count : absorbOf freshOf m .count + length p ≤ limit = rw (count-absorb freshOf m) (omega arith) in
     let next = add-all ps (m ++ p) (rw append-assoc fits) in
-    rw (update-taken (absorbOf freshOf m) p count, absorb-append freshOf m p refl) (rw append-assoc at next)
+    rw (update-taken (absorbOf freshOf m) p count, absorb-both freshOf m p refl) (rw append-assoc at next)
 
 -- closing a state that holds the message m
 pub close-whole : (m : List ℕ) → closeOf (absorbOf freshOf m) ≡ sha256 m
@@ -77,11 +81,11 @@ unfolding closeOf sha256
 close-whole m =
     ap bytesOf
     (ap (λ (c : ℕ). absorbOf (absorbOf freshOf m) (paddingOf c) .words) (count-absorb freshOf m ∙ zero-add (length m))
-    ∙ ap (λ (s : State). s .words) (absorb-append freshOf m (paddingOf (length m)) refl) ∙ words-absorb (m ++ paddingOf (length m)))
+    ∙ ap (λ (s : State). s .words) (absorb-both freshOf m (paddingOf (length m)) refl) ∙ words-absorb (m ++ paddingOf (length m)))
 
 -- and one that holds the message p, with m added: a state may be kept, and each of several messages that begin with p closed behind it
 pub close-behind : (p m : List ℕ) → closeOf (absorbOf (absorbOf freshOf p) m) ≡ sha256 (p ++ m)
-close-behind p m = ap closeOf (absorb-append freshOf p m refl) ∙ close-whole (p ++ m)
+close-behind p m = ap closeOf (absorb-both freshOf p m refl) ∙ close-whole (p ++ m)
 
 -- closing any state gives a digest's length
 pub length-close : (s : State) → length (s .words) ≡ 8 → length (closeOf s) ≡ digestSize

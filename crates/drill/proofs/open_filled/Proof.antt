@@ -1,5 +1,4 @@
 use Rattle.drill.proofs.Turns.{filled-plain, filled-keyed}
-use Rattle.model.specs.Refusal.{openAnswer}
 use borrow.Author.Needs.{needs}
 use Rattle.drill.proofs.open_filled.Statement.{statement}
 use Rattle.drill.proofs.open_filled.Tie as tie

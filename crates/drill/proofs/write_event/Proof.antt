@@ -1,4 +1,4 @@
-use mathlib.Core.Path.{_≡_, sym, ap, _∙_}
+use mathlib.Core.Path.{sym, ap, _∙_}
 use Rattle.model.specs.Tag.{Tags}
 use Rattle.model.specs.Write.{WriteResult, writeOf}
 use Rattle.model.specs.Medium.{mediumOf}

@@ -1,4 +1,4 @@
-use mathlib.Core.Path.{_≡_, sym, ap, _∙_, subst}
+use mathlib.Core.Path.{sym, ap, _∙_, subst}
 use Rattle.model.specs.Format.{formatOf}
 use Rattle.sound.specs.declared.tag.Rule.{Rule}
 use Rattle.sound.specs.Rule.{tagBy, RuleOk}

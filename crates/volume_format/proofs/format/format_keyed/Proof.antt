@@ -1,8 +1,8 @@
-use mathlib.Core.Path.{_≡_, sym, ap, _∙_, subst}
+use mathlib.Core.Path.{sym, _∙_, subst}
 use borrow.Author.Tests.{not-true, not-false}
 use Rattle.volume_format.proofs.Formats.{keyed-malformed, key-refused, key-taken}
 use Rattle.model.specs.Refusal.{formatAnswer}
-use Rattle.sound.specs.Rule.{tagBy, RuleOk}
+use Rattle.sound.specs.Rule.{RuleOk}
 use Rattle.sound.proofs.Rules.{rules-ok}
 use borrow.Author.Needs.{needs}
 use Rattle.volume_format.proofs.format.format_keyed.Statement.{statement}

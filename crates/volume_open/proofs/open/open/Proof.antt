@@ -1,4 +1,4 @@
-use mathlib.Core.Path.{_≡_, sym, ap, _∙_}
+use mathlib.Core.Path.{ap, _∙_}
 use Rattle.model.specs.Open.{openOf}
 use Rattle.sound.specs.declared.tag.Rule.{Rule}
 use Rattle.sound.specs.Rule.{tagBy}

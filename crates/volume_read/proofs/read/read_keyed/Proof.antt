@@ -1,4 +1,4 @@
-use mathlib.Core.Path.{_≡_, sym, ap, _∙_}
+use mathlib.Core.Path.{sym, _∙_}
 use borrow.Author.Tests.{not-true, not-false}
 use Rattle.volume_read.proofs.Reading.{keyed-malformed, key-refused, key-taken}
 use Rattle.model.specs.Refusal.{readAnswer}
