@@ -313,8 +313,11 @@ pub formatted-length : (d : List ℕ → List ℕ) → ((m : List ℕ) → lengt
     → formatOf (tagsBy d) g v .answer ≡ passed → TagsOf (tagsBy d) (g .width)
 formatted-length d full g v e = length-tagsBy d full (g .width) (ranged g (format-layout (tagsBy d) g v e) .t .bound)
 
+pub formatted-plain : (g : Layout) (v : List ℕ) → formatOf tagOf g v .answer ≡ passed → TagsOf tagOf (g .width)
+formatted-plain = formatted-length sha256 length-sha256
+
 pub demand3-sha256 : Demand3Sha256
-demand3-sha256 g v e = demand3 tagOf g (formatted-length sha256 length-sha256 g v e) v e
+demand3-sha256 g v e = demand3 tagOf g (formatted-plain g v e) v e
 
 pub demand3-hmac : Demand3Hmac
 demand3-hmac key g v e = demand3 (hmacTagOf key) g (formatted-length (hmac key) (mac-length key) g v e) v e

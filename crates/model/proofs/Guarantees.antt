@@ -11,8 +11,6 @@ use lib.Dec.{eqb}
 use borrow.Author.Tests.{eq-eqb, ne-eqb, lt-ltb, le-ltb}
 use Rattle.octets.specs.Answer.{taken, refusal, refuse, isTaken}
 use Rattle.octets.proofs.Answers.{taken-same, refused-not-taken}
-use Rattle.digest.specs.Sha256.{sha256}
-use Rattle.digest.specs.Sha256.Promise.{length-sha256}
 use Rattle.hmac.specs.Hmac.{hmac}
 use Rattle.hmac.proofs.Theorems.{mac-length}
 use Rattle.on_disk.specs.declared.Layout.{Layout}
@@ -43,7 +41,7 @@ use Rattle.model.specs.Guarantees.{Outside, Guarantees, Guaranteed, Guar
 use Rattle.model.proofs.Cuts.{cuts}
 use Rattle.model.proofs.Volumes.{part-bytes}
 use Rattle.model.proofs.Formats.{Fresh, format-fresh}
-use Rattle.model.proofs.Demand3.{formatted-length, setting, I, starts, plays, lasts}
+use Rattle.model.proofs.Demand3.{formatted-length, formatted-plain, setting, I, starts, plays, lasts}
 
 staging-ok : (g : Layout) (st : List ℕ) → length st ≡ sectionSize (g .width) * 512 → stagingOk g st ≡ true
 unfolding stagingOk
@@ -245,7 +243,7 @@ guaranteed tags g sz v e es =
     (lasts tags g (formatOf tags g v .volume) X (begin (formatOf tags g v .volume)) start es (starts tags g (formatOf tags g v .volume) X F))
 
 pub guaranteed-sha256 : GuaranteedSha256
-guaranteed-sha256 g v e = guaranteed tagOf g (formatted-length sha256 length-sha256 g v e) v e
+guaranteed-sha256 g v e = guaranteed tagOf g (formatted-plain g v e) v e
 
 pub guaranteed-hmac : GuaranteedHmac
 guaranteed-hmac key g v e = guaranteed (hmacTagOf key) g (formatted-length (hmac key) (mac-length key) g v e) v e

@@ -26,7 +26,7 @@ use Rattle.model.specs.Ledger.{Ledger}
 use Rattle.model.specs.World.{World, anOpen, byOpen, after}
 use Rattle.model.specs.Demand3.{worldAfter, ledgerAfter, Agrees}
 use Rattle.model.specs.Guarantees.{OpensFresh}
-use Rattle.model.proofs.Demand3.{demand3-sha256, formatted-length, fresh-opens}
+use Rattle.model.proofs.Demand3.{demand3-sha256, formatted-plain, fresh-opens}
 use Rattle.volume_check.specs.Check.{recoverFrom, recoverOf, isBad, countOf}
 use Rattle.volume_report.specs.Report.{mostImageSectors, decimal, layoutLine, lineOf, badLine, badLines, checkText, reportFrom, reportHeld, reportOf, FreshReports, example, FreshPrints}
 
@@ -62,7 +62,7 @@ module _ (g : Layout) (v : List ℕ) (e : formatOf tagOf g v .answer ≡ passed)
   s₀ = record { layout = g; phase = Filling; count = 0; id = 1 }
 
   fresh : OpensFresh tagOf g v₀
-  fresh = fresh-opens tagOf g (formatted-length g v e) v e
+  fresh = fresh-opens tagOf g (formatted-plain g v e) v e
 
   opens : openOf tagOf (g .reserved) v₀ st ≡ record { answer = taken (s₀, 0); staging = empty }
   opens = fresh .opened st (length-replicate (sectionSize (g .width) * 512) 0)
