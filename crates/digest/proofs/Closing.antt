@@ -18,7 +18,7 @@ use Rattle.digest.specs.declared.Answer.the-variants.{Taken, TooLong}
 use Rattle.digest.specs.declared.State.{State}
 use Rattle.digest.specs.declared.Updated.{Updated}
 use Rattle.digest.specs.Answer.{answerOf}
-use Rattle.digest.specs.Pieces.{limit, freshOf, absorbOf, UpdateOutcome, updated, refusedPieceOf, updateOf, DigestOutcome, refusedDigestOf, closeOf, finishOf, digestOf}
+use Rattle.digest.specs.Pieces.{limit, behindOf, freshOf, absorbOf, UpdateOutcome, updated, refusedPieceOf, updateOf, DigestOutcome, refusedDigestOf, closeOf, finishOf, digestOf}
 use Rattle.digest.specs.Sha256.{sha256}
 use Rattle.digest.specs.Sha256.Promise.{update-taken, update-refused, closing, absorb-both, close-whole, digest-taken}
 use Rattle.digest.specs.Padding.{zeroBytesOf, paddingOf, bytesOf}
@@ -118,9 +118,9 @@ behind s a b p q r full ea eb er = er ∙ ap closeOf (eb ∙ ap (λ (x : State).
 pub two-past : (p q : List ℕ) (r : DigestOutcome) → limit < length p + length q → r ≡ refusedDigestOf → r ≡ digestOf (p ++ q)
 two-past p q r h = digest-past (p ++ q) r (omega (arith, h, length-append p q))
 
-pub two-fit : (p q : List ℕ) (s : State) (d : List ℕ) → length p + length q ≤ limit → s ≡ freshOf → d ≡ closeOf (absorbOf s (p ++ q))
+pub two-fit : (p q : List ℕ) (s : State) (d : List ℕ) → length p + length q ≤ limit → s ≡ freshOf → d ≡ closeOf (absorbOf (behindOf (s .words) 0) (p ++ q))
     → record { answer = taken tt; digest = d } ≡ digestOf (p ++ q)
 two-fit p q s d h es ed =
     let fits : length (p ++ q) ≤ limit = omega (arith, h, length-append p q) in
-    let is : d ≡ sha256 (p ++ q) = ed ∙ ap (λ (x : State). closeOf (absorbOf x (p ++ q))) es ∙ close-whole (p ++ q) in
+    let is : d ≡ sha256 (p ++ q) = ed ∙ ap (λ (x : State). closeOf (absorbOf (behindOf (x .words) 0) (p ++ q))) es ∙ close-whole (p ++ q) in
     ap (λ (x : List ℕ). record { answer = taken tt; digest = x }) is ∙ sym (digest-taken (p ++ q) fits)

@@ -1,6 +1,7 @@
 -- The digest's calls, R11 and R12: what each returns, for any state, piece and message.
 --
 -- limit             : the most bytes that a message may have, R12
+-- behindOf h n      : the state with the hash value h behind n bytes, all of them in whole blocks
 -- freshOf           : the state before any piece
 -- heldOf s          : the bytes of the unfinished block, R11: the first (count mod 64) of the tail
 -- absorbOf s p      : the state s with the piece p added: the whole blocks of the held bytes and p are hashed, what is left is the tail, with zeros behind it
@@ -30,8 +31,11 @@ use Rattle.digest.specs.Sha256.{digestSize, sha256}
 abbrev pub limit : ℕ
 limit = 2 ^ 61 - 1
 
+abbrev pub behindOf : List ℕ → ℕ → State
+behindOf h n = record { words = h; tail = replicate 64 0; count = n }
+
 abbrev pub freshOf : State
-freshOf = record { words = initialHash; tail = replicate 64 0; count = 0 }
+freshOf = behindOf initialHash 0
 
 abbrev pub heldOf : State → List ℕ
 heldOf s = take (s .count % 64) (s .tail)

@@ -10,7 +10,7 @@ ghost use mathlib.Core.List.{_++_};
 ghost use lib.ListN.{length};
 ghost use Rattle.octets.specs.Answer.{numberIn};
 ghost use Rattle.digest.specs.Answer.{answerOf};
-ghost use Rattle.digest.specs.Pieces.{limit, freshOf, absorbOf, updated, refusedPieceOf, updateOf, closed, refusedDigestOf, closeOf, finishOf, digestOf};
+ghost use Rattle.digest.specs.Pieces.{limit, behindOf, freshOf, absorbOf, updated, refusedPieceOf, updateOf, closed, refusedDigestOf, closeOf, finishOf, digestOf};
 
 // The length of a digest, in bytes.
 pub const DIGEST_SIZE: usize = 32;
@@ -141,12 +141,17 @@ pub fn sha256(message: &[u8]) -> Closed
     finish(s)
 }
 
-// The digest of what a state holds and of two further parts, all within the limit, which the callers have tested: for the crates here. The states on the
-// way stand in no answer, so it takes less stack than two pieces and a finish.
-pub fn digest_behind(s: State, first: &[u8], second: &[u8]) -> [u8; DIGEST_SIZE]
-    requires { ⌜ s .count + (length (now first) + length (now second)) ≤ limit ⌝ }
-    ensures { λ r. ⌜ r ≡ closeOf (absorbOf s (now (first .entry) ++ now (second .entry))) ⌝ }
+// The digest of two parts behind whole blocks, so many bytes of them with that hash value; all within the limit, which the callers have tested. For the
+// crates here: no state is handed over, and none stands in an answer on the way, so it takes less stack than two pieces and a finish.
+pub fn digest_behind(h: [u32; 8], before: u64, first: &[u8], second: &[u8]) -> [u8; DIGEST_SIZE]
+    requires { ⌜ before + (length (now first) + length (now second)) ≤ limit ⌝ }
+    ensures { λ r. ⌜ r ≡ closeOf (absorbOf (behindOf h before) (now (first .entry) ++ now (second .entry))) ⌝ }
 {
+    let s = State {
+        words: h,
+        tail: [0u8; 64],
+        count: before,
+    };
     let one = pieces::absorb(s, first);
     let both = pieces::absorb(one, second);
     pieces::close(both)
@@ -163,7 +168,9 @@ pub fn sha256_of_two(first: &[u8], second: &[u8]) -> Closed
     if LIMIT - before < second.len() as u64 {
         return refused_digest();
     }
-    let digest = digest_behind(fresh(), first, second);
+    let s = fresh();
+    let h = s.words;
+    let digest = digest_behind(h, 0, first, second);
     Closed {
         answer: Answer::Taken,
         digest: digest,

@@ -41,9 +41,7 @@ unfolding keyOf
 kept k b p q h g eb ep eq eh eg = rw (eh, eg, ep, eq, eb)
 
 -- both digests of a mac
-pub closed-mac : (x : Key) (m d r : List ℕ) (s t : State) → s ≡ resumed (x .inner) → t ≡ resumed (x .outer) → d ≡ closeOf (absorbOf s m)
-    → r ≡ closeOf (absorbOf t (d ++ [])) → r ≡ macOf x m
+pub closed-mac : (x : Key) (m d r : List ℕ) → d ≡ closeOf (absorbOf (resumed (x .inner)) m) → r ≡ closeOf (absorbOf (resumed (x .outer)) (d ++ [])) → r ≡ macOf x m
 unfolding macOf
-closed-mac x m d r s t es et ed er =
-    er ∙ ap (λ (l : List ℕ). closeOf (absorbOf t l)) (append-nil d) ∙ (λ i. closeOf (absorbOf (et i) (ed i)))
-    ∙ ap (λ (y : State). closeOf (absorbOf (resumed (x .outer)) (closeOf (absorbOf y m)))) es
+closed-mac x m d r ed er =
+    er ∙ ap (λ (l : List ℕ). closeOf (absorbOf (resumed (x .outer)) l)) (append-nil d) ∙ ap (λ (l : List ℕ). closeOf (absorbOf (resumed (x .outer)) l)) ed

@@ -6,9 +6,8 @@
 -- macOf x m    : what a kept key x, any value of its type, gives for the message m; of a key's own it is `hmac` (Theorems)
 use Prim.Native.Nat.{ℕ}
 use mathlib.Core.List.{List}
-use lib.ListN.{replicate}
 use Rattle.digest.specs.declared.State.{State}
-use Rattle.digest.specs.Pieces.{freshOf, absorbOf, closeOf}
+use Rattle.digest.specs.Pieces.{behindOf, freshOf, absorbOf, closeOf}
 use Rattle.hmac.specs.declared.Key.{Key}
 use Rattle.hmac.specs.Hmac.{blockSize, ipad, opad, padded}
 
@@ -19,7 +18,7 @@ unfoldable pub keyOf : List ℕ → Key
 keyOf k = record { inner = hashBehind (padded ipad k); outer = hashBehind (padded opad k) }
 
 abbrev pub resumed : List ℕ → State
-resumed h = record { words = h; tail = replicate blockSize 0; count = blockSize }
+resumed h = behindOf h blockSize
 
 unfoldable pub macOf : Key → List ℕ → List ℕ
 macOf x m = closeOf (absorbOf (resumed (x .outer)) (closeOf (absorbOf (resumed (x .inner)) m)))

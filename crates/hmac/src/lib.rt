@@ -12,14 +12,16 @@ ghost use Rattle.digest.specs.Pieces.{limit, absorbOf, closeOf};
 ghost use Rattle.digest.specs.Sha256.{digestSize};
 ghost use Rattle.hmac.specs.Answer.{answerOf};
 ghost use Rattle.hmac.specs.Hmac.{blockOf, keyOk};
-ghost use Rattle.hmac.specs.Kept.{hashBehind, keyOf, resumed, macOf};
+ghost use Rattle.hmac.specs.Kept.{hashBehind, keyOf, macOf};
 ghost use Rattle.hmac.specs.Call.{messageLimit, called, macCallOf};
 
 // The longest key that a call takes, in bytes.
 pub const MOST_KEY: usize = 256;
 
-// The bytes of a block of SHA-256.
+// The bytes of a block of SHA-256, as a length and as a count.
 const BLOCK_SIZE: usize = 64;
+
+const BLOCK: u64 = 64;
 
 // The bytes of the two pads.
 const IPAD: u8 = 0x36;
@@ -121,17 +123,6 @@ pub fn keep(key: &[u8]) -> Key
     }
 }
 
-// The digest's state behind one block.
-fn resume(h: [u32; 8]) -> digest::State
-    ensures { λ r. ⌜ r ≡ resumed h ⌝ }
-{
-    digest::State {
-        words: h,
-        tail: [0u8; 64],
-        count: 64,
-    }
-}
-
 // What a kept key gives for a message that is lent in two parts: a sector's number and its bytes.
 pub fn mac_of_two(key: Key, first: &[u8], second: &[u8]) -> [u8; 32]
     requires { ⌜ length (now first) + length (now second) ≤ messageLimit ⌝ }
@@ -139,8 +130,8 @@ pub fn mac_of_two(key: Key, first: &[u8], second: &[u8]) -> [u8; 32]
 {
     let inner = key.inner;
     let outer = key.outer;
-    let digest = digest::digest_behind(resume(inner), first, second);
-    digest::digest_behind(resume(outer), &digest, &[])
+    let digest = digest::digest_behind(inner, BLOCK, first, second);
+    digest::digest_behind(outer, BLOCK, &digest, &[])
 }
 
 // The refusal of a call.

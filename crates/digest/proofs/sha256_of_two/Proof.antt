@@ -1,5 +1,7 @@
-use mathlib.Core.Path.{_≡_, ap}
+use Prim.Native.Nat.{ℕ, _+_}
+use mathlib.Core.Path.{_≡_, refl, sym, ap, _∙_}
 use native.Mathlib.Omega.{arith}
+use lib.ListN.{length}
 use Rattle.digest.specs.declared.State.{State}
 use Rattle.digest.proofs.Closing.{two-past, two-fit}
 use borrow.Author.Needs.{needs}
@@ -12,11 +14,8 @@ returns c = two-past (c .before .before .before .before .args .first .now) (c .b
 returns-2 : tie.Need-returns-2
 returns-2 c = two-past (c .before .before .before .before .before .args .first .now) (c .before .before .before .before .before .args .second .now) _ (omega arith) (c .refused-digest2 .ensures)
 
-digest-behind-requires : tie.Need-digest-behind-requires
-digest-behind-requires c κs = let n : c .fresh .result .count ≡ 0 = ap (λ (x : State). x .count) (c .fresh .ensures) in omega arith
-
 returns-3 : tie.Need-returns-3
-returns-3 c = two-fit (c .before .before .before .before .before .before .args .first .now) (c .before .before .before .before .before .before .args .second .now) (c .before .fresh .result) (c .digest-behind .result) (omega arith) (c .before .fresh .ensures) (c .digest-behind .ensures)
+returns-3 c = two-fit (c .before .before .before .before .before .before .before .args .first .now) (c .before .before .before .before .before .before .before .args .second .now) (c .before .before .fresh .result) (c .digest-behind .result) (omega arith) (c .before .before .fresh .ensures) (c .digest-behind .ensures)
 
 pub sha256-of-two-spec : {M : Type 1} → statement M
 sha256-of-two-spec =
@@ -27,5 +26,5 @@ sha256-of-two-spec =
     (λ c κs. search needs)
     returns-2
     (λ c κs. search needs)
-    digest-behind-requires
+    (λ c κs. search needs)
     returns-3)
