@@ -179,27 +179,27 @@ stepped v st v′ left x r t l e = ap (λ (y : Bool). worldOf (record { live = O
 
 -- ---- opens with a filled loan
 
+pub filled : (b : ℕ) (st full : List ℕ) → full ≡ patch st 0 (replicate (length st) b) → full ≡ replicate (length st) b
+filled b st full f = f ∙ patch-all st (replicate (length st) b) (length-replicate (length st) b)
+
 module _ (key : List ℕ) (r b : ℕ) (v st : List ℕ) where
   -- the whole loan, without a key and with one
-  filled : (full : List ℕ) → full ≡ patch st 0 (replicate (length st) b) → full ≡ replicate (length st) b
-  filled full f = f ∙ patch-all st (replicate (length st) b) (length-replicate (length st) b)
-
-  pub filled-plain : (o : OpenResult) (full : List ℕ) → full ≡ patch st 0 (replicate (length st) b) → length key ≡ 0 → o ≡ openOf tagOf r v full
+  pub filled-plain : (o : OpenResult) (full : List ℕ) → full ≡ replicate (length st) b → length key ≡ 0 → o ≡ openOf tagOf r v full
       → o ≡ openOf (tagsFor key) r v (replicate (length st) b)
   filled-plain o full f z e =
-      e ∙ ap (openOf tagOf r v) (filled full f) ∙ ap (λ (tags : Tags). openOf tags r v (replicate (length st) b)) (sym (plain-tags key z))
+      e ∙ ap (openOf tagOf r v) f ∙ ap (λ (tags : Tags). openOf tags r v (replicate (length st) b)) (sym (plain-tags key z))
 
-  pub filled-keyed : (o : OpenResult) (full : List ℕ) → full ≡ patch st 0 (replicate (length st) b) → length key ≢ 0 → length key ≤ 256
+  pub filled-keyed : (o : OpenResult) (full : List ℕ) → full ≡ replicate (length st) b → length key ≢ 0 → length key ≤ 256
       → o ≡ openKeyedOf key r v full → o ≡ openOf (tagsFor key) r v (replicate (length st) b)
   filled-keyed o full f z h e =
-      e ∙ ap (openKeyedOf key r v) (filled full f) ∙ keyed-calls .taken key (in-range key z h) .opening r v (replicate (length st) b)
+      e ∙ ap (openKeyedOf key r v) f ∙ keyed-calls .taken key (in-range key z h) .opening r v (replicate (length st) b)
       ∙ ap (λ (tags : Tags). openOf tags r v (replicate (length st) b)) (sym (keyed-tags key z))
 
   -- with a key that no call takes
-  pub filled-long : (o : OpenResult) (full : List ℕ) → full ≡ patch st 0 (replicate (length st) b) → o ≡ openKeyedOf (longKey b) r v full
+  pub filled-long : (o : OpenResult) (full : List ℕ) → full ≡ replicate (length st) b → o ≡ openKeyedOf (longKey b) r v full
       → o .staging ≡ replicate (length st) b
   filled-long o full f e =
-      ap (λ (y : OpenResult). y .staging) (e ∙ keyed-calls .refused (longKey b) (long-key-refused b) .opening r v full) ∙ filled full f
+      ap (λ (y : OpenResult). y .staging) (e ∙ keyed-calls .refused (longKey b) (long-key-refused b) .opening r v full) ∙ f
 
   -- fewer bytes than a sector has, in a loan that has no more, or in one that does
   module _ (a : OpenAnswer) (left : List ℕ) where

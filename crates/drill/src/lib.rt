@@ -203,12 +203,18 @@ fn event_off(
     at_rest(Live::Off)
 }
 
+fn fill_loan(st: &mut [u8], fill: u8)
+    ensures { λ u. ⌜ now (st .exit) ≡ replicate (length (now (st .entry))) fill ⌝ }
+{
+    octets::fill_at(st, 0, st.len(), fill);
+}
+
 // An open whose staging is filled with a byte.
 fn open_filled(r: usize, key: &[u8], v: &[u8], st: &mut [u8], fill: u8) -> OpenAnswer
     requires { ⌜ length (now key) ≤ mostKey ⌝ }
     ensures { λ a. ⌜ record { answer = openAnswer a; staging = now (st .exit) } ≡ openOf (tagsFor (now (key .entry))) r (now (v .entry)) (replicate (length (now (st .entry))) fill) ⌝ }
 {
-    octets::fill_at(st, 0, st.len(), fill);
+    fill_loan(st, fill);
     if key.len() == 0 {
         return volume::open::open(v, st, r);
     }
@@ -232,7 +238,7 @@ fn short_open(r: usize, key: &[u8], v: &[u8], st: &mut [u8], fill: u8)
 fn open_long_key(r: usize, v: &[u8], st: &mut [u8], fill: u8)
     ensures { λ u. ⌜ now (st .exit) ≡ replicate (length (now (st .entry))) fill ⌝ }
 {
-    octets::fill_at(st, 0, st.len(), fill);
+    fill_loan(st, fill);
     let key = [fill; LONG_KEY_SIZE];
     volume::open::open_keyed(v, st, r, &key);
 }

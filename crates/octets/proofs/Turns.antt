@@ -3,15 +3,16 @@ use Prim.Native.Nat.{ℕ, suc, _+_, _-_, _*_, _/_, _%_, _^_, _≤_, _<_}
 use native.Mathlib.Nat.{pow-suc, pow-le-pow-right}
 use native.Mathlib.Numerals.{add-one}
 use native.Mathlib.Omega.{arith}
-use mathlib.Core.Bool.{true, false}
-use mathlib.Core.List.{List, _∷_, _++_}
+use mathlib.Core.Bool.{Bool, true, false, _&&_}
+use mathlib.Core.List.{List, [], _∷_, _++_}
 use mathlib.Core.Logic.{_≢_}
-use mathlib.Core.Path.{_≡_, sym, ap, _∙_}
-use lib.ListN.{length, take, drop, getD, set, replicate, take-append-drop}
-use lib.Seq.{drop-cons, drop-drop, drop-set-lt, getD-drop, paste, paste-suc, ext-getD}
+use mathlib.Core.Path.{_≡_, refl, sym, ap, _∙_}
+use lib.ListN.{length, take, drop, getD, set, replicate, take-append-drop, length-drop}
+use lib.Dec.{eqb}
+use lib.Seq.{drop-cons, drop-drop, drop-set-lt, getD-drop, take-suc, paste, paste-suc}
 use Rattle.octets.specs.Numbers.{le, value}
 use Rattle.octets.specs.Parts.{part, same}
-use Rattle.octets.proofs.Parts.{length-part, getD-part, eq-same, ne-same}
+use Rattle.octets.proofs.Parts.{length-part}
 
 -- ---- a loop that reads a number, from its last byte down: v is the value of the bytes from index i on
 
@@ -66,21 +67,33 @@ module _ (n i x v : ℕ) (more : i < n) (left : drop i (le n x) ≡ le (n - i) v
   pub le-rest : drop (i + 1) (le n x) ≡ le (n - (i + 1)) (v / 256)
   le-rest = sym (drop-drop 1 i (le n x)) ∙ ap (drop 1) left-bytes
 
--- ---- a loop that compares n bytes of a from index x with those of b from index y
+-- ---- a loop that compares bytes of a from index x with those of b from index y: t is whether the first i are the same
 
-module _ (a : List ℕ) (x : ℕ) (b : List ℕ) (y n : ℕ) where
-  -- it is left at the first byte that differs
-  pub part-differs : (i : ℕ) → i < n → getD a (x + i) 0 ≢ getD b (y + i) 0 → false ≡ same (part a x n) (part b y n)
-  part-differs i l q =
-      sym (ne-same (part a x n) (part b y n)
-      (λ e. q (sym (getD-part a x n i l) ∙ ap (λ (z : List ℕ). getD z i 0) e ∙ getD-part b y n i l)))
+and-assoc : (r s t : Bool) → (r && (s && t)) ≡ ((r && s) && t)
+and-assoc true s t = refl
+and-assoc false s t = refl
 
-  -- it ends where all agree
-  pub part-same : x + n ≤ length a → y + n ≤ length b → ((i : ℕ) → i < n → getD a (x + i) 0 ≡ getD b (y + i) 0)
-      → true ≡ same (part a x n) (part b y n)
-  part-same fa fb h =
-      let la : length (part a x n) ≡ n = length-part a x n fa in
-      let lb : length (part b y n) ≡ n = length-part b y n fb in
-      sym (eq-same (part a x n) (part b y n)
-      (ext-getD 0 (part a x n) (part b y n) (la ∙ sym lb)
-      (λ i l. let k : i < n = omega arith in getD-part a x n i k ∙ h i k ∙ sym (getD-part b y n i k))))
+and-last : (t : Bool) → (t && true) ≡ (true && t)
+and-last true = refl
+and-last false = refl
+
+same-more : (p q : List ℕ) (u w : ℕ) → length p ≡ length q → same (p ++ (u ∷ [])) (q ++ (w ∷ [])) ≡ (same p q && eqb u w)
+same-more [] [] u w e = and-last (eqb u w)
+same-more [] (y ∷ q) u w e = absurd (omega (arith, e))
+same-more (x ∷ p) [] u w e = absurd (omega (arith, e))
+same-more (x ∷ p) (y ∷ q) u w e = ap (λ (t : Bool). eqb x y && t) (same-more p q u w (omega (arith, e))) ∙ and-assoc (eqb x y) (same p q) (eqb u w)
+
+-- one byte more of a part
+part-more : (l : List ℕ) (at i : ℕ) → at + i < length l → part l at (i + 1) ≡ part l at i ++ (getD l (at + i) 0 ∷ [])
+part-more l at i h =
+    let inside : i < length (drop at l) = rw length-drop (omega arith) in
+    rw (add-one, take-suc (drop at l) i 0 inside, getD-drop)
+
+pub same-turn : (a : List ℕ) (x : ℕ) (b : List ℕ) (y i : ℕ) (t : Bool) → x + i < length a → y + i < length b → t ≡ same (part a x i) (part b y i)
+    → (t && eqb (getD a (x + i) 0) (getD b (y + i) 0)) ≡ same (part a x (i + 1)) (part b y (i + 1))
+same-turn a x b y i t ha hb e =
+    let la : length (part a x i) ≡ i = length-part a x i (omega arith) in
+    let lb : length (part b y i) ≡ i = length-part b y i (omega arith) in
+    ap (λ (s : Bool). s && eqb (getD a (x + i) 0) (getD b (y + i) 0)) e
+    ∙ sym (same-more (part a x i) (part b y i) (getD a (x + i) 0) (getD b (y + i) 0) (la ∙ sym lb))
+    ∙ (λ j. same (sym (part-more a x i ha) j) (sym (part-more b y i hb) j))

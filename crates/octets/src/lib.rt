@@ -44,19 +44,18 @@ pub fn put_number(s: &mut [u8], at: usize, n: usize, x: u64)
     }
 }
 
-// Whether the n bytes of a from index x are those of b from index y.
+// Whether the n bytes of a from index x are those of b from index y. All are looked at, so that the loop does not end where they differ.
 pub fn same_at(a: &[u8], x: usize, b: &[u8], y: usize, n: usize) -> bool
     requires { ⌜ (x + n ≤ length (now a)) × (y + n ≤ length (now b)) ⌝ }
     ensures { λ r. ⌜ r ≡ same (part (now (a .entry)) x n) (part (now (b .entry)) y n) ⌝ }
 {
+    let mut same = true;
     let mut i = 0;
     while i < n {
-        if a[x + i] != b[y + i] {
-            return false;
-        }
+        same = same & (a[x + i] == b[y + i]);
         i += 1;
     }
-    true
+    same
 }
 
 // Sets the n bytes of d from index `at` to those of s from index `from`.
