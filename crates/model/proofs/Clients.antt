@@ -1,26 +1,29 @@
 -- Uses of the top statements, each at an instance that only the whole statement gives: so that a statement which is made weaker, and is then still
 -- proved, is refused here.
 use Prim.Native.Nat.{ℕ, _+_, _-_, _*_, _^_, _<_}
-use mathlib.Core.Bool.{true}
-use mathlib.Core.Logic.{_≢_}
+use mathlib.Core.Bool.{true, _&&_}
+use mathlib.Core.Logic.{_≢_, _⊎_}
 use mathlib.Core.List.{List, [], _∷_, _++_}
-use mathlib.Core.Path.{_≡_, sym, ap, _∙_}
+use mathlib.Core.Path.{_≡_, refl, sym, ap, _∙_}
 use native.Mathlib.Omega.{arith}
-use lib.Dec.{eqb}
+use lib.Dec.{leb, eqb}
 use lib.ListN.{length, getD, drop, replicate, length-append, length-replicate}
-use Rattle.octets.specs.Answer.{taken, isTaken}
+use Rattle.octets.specs.Answer.{taken, isTaken, numberIn}
 use Rattle.octets.specs.Sectors.{sectorAt}
+use Rattle.hmac.specs.Hmac.{keyOk}
 use Rattle.on_disk.specs.declared.Layout.{Layout}
 use Rattle.model.specs.declared.State.{State}
 use Rattle.on_disk.specs.Layout.{sectionSize, dataAt, needed, layoutOk}
 use Rattle.on_disk.specs.Section.{Entry, emptySection}
 use Rattle.model.specs.Journal.{wholeId, usedOf}
-use Rattle.model.specs.Tag.{Tags, TagsOf, tagAt}
-use Rattle.model.specs.State.{passed}
-use Rattle.model.specs.Format.{formatOf}
+use Rattle.model.specs.Tag.{Tags, TagsOf, tagOf, hmacTagOf, tagAt}
+use Rattle.model.specs.State.{passed, volumeLoanOk}
+use Rattle.model.specs.Format.{FormatResult, formatOf}
 use Rattle.model.specs.Open.{openOf}
+use Rattle.model.specs.Write.{writeOf}
 use Rattle.model.specs.Step.{stepOf}
 use Rattle.model.specs.Read.{readOf}
+use Rattle.model.specs.Keyed.{formatKeyedOf, openKeyedOf, writeKeyedOf, readKeyedOf, keyRefusal}
 use Rattle.model.specs.Ledger.{Ledger, lastFor, entersNext}
 use Rattle.model.specs.Medium.{volumeIn}
 use Rattle.model.specs.World.{Event, settingOf, anOpen, aStep, off, on, World, after}
@@ -31,7 +34,9 @@ use Rattle.model.specs.ReadBack.{AllSized, putBatch, sealedSection, numb
 use Rattle.octets.proofs.Parts.{drop-past}
 use Rattle.on_disk.proofs.Addresses.{ranged}
 use Rattle.on_disk.proofs.Sections.{per-pos}
-use Rattle.model.proofs.Demand3.{demand3}
+use Rattle.model.proofs.Demand3.{demand3, demand3-hmac}
+use Rattle.model.proofs.Keyed.{keyed-calls}
+use Rattle.model.proofs.WrongKey.{wrong-key}
 use Rattle.model.proofs.Guarantees.{guaranteed}
 use Rattle.model.proofs.ReadBack.{read-back}
 use Rattle.model.proofs.Reserved.{reserved-unread}
@@ -125,3 +130,33 @@ other-reserved tags x y rest st lx ly =
     behind z l =
         let none : 64 * 512 - length z ≡ 0 = omega arith in
         drop-past z rest (64 * 512) (omega arith) ∙ ap (λ (n : ℕ). drop n rest) none
+
+-- ---- the calls with a key: of one byte and of 256, of none and of 257
+
+sized-ok : (n b : ℕ) → keyOk (replicate n b) ≡ (leb 1 n && leb n 256)
+sized-ok n b = ap (λ (k : ℕ). leb 1 k && leb k 256) (length-replicate {A = ℕ} n b)
+
+module _ (b : ℕ) (g : Layout) (s : State) (v st : List ℕ) (r n : ℕ) (bytes : List ℕ) where
+  shortest-key : writeKeyedOf (b ∷ []) s st n bytes ≡ writeOf (hmacTagOf (b ∷ [])) s st n bytes
+  shortest-key = keyed-calls .taken (b ∷ []) refl .write s st n bytes
+
+  longest-key : readKeyedOf (replicate 256 b) s v st n bytes ≡ readOf (hmacTagOf (replicate 256 b)) s v st n bytes
+  longest-key = keyed-calls .taken (replicate 256 b) (sized-ok 256 b) .read s v st n bytes
+
+  no-key : openKeyedOf [] r v st ≡ record { answer = keyRefusal (volumeLoanOk v); staging = st }
+  no-key = keyed-calls .refused [] refl .opening r v st
+
+  too-long-key : formatKeyedOf (replicate 257 b) g v ≡ record { answer = keyRefusal (volumeLoanOk v); volume = v }
+  too-long-key = keyed-calls .refused (replicate 257 b) (sized-ok 257 b) .format g v
+
+  -- a volume with keyed tags, read without the key
+  missing-key : isTaken (readOf (hmacTagOf (b ∷ [])) s v st n bytes .answer) ≡ true
+      → (readOf tagOf s v st n bytes ≡ readOf (hmacTagOf (b ∷ [])) s v st n bytes)
+      ⊎ ((numberIn (readOf tagOf s v st n bytes .answer) ≡ 7) × (readOf tagOf s v st n bytes .sector ≡ bytes))
+  missing-key = wrong-key (hmacTagOf (b ∷ [])) tagOf .readShows s v st n bytes
+
+-- demand 3 for any key, by the format with it
+keyed-home : (key : List ℕ) → keyOk key ≡ true → (g : Layout) (v : List ℕ) → formatKeyedOf key g v .answer ≡ passed → (es : List Event)
+    → worldAfter (hmacTagOf key) g v es .settled ≡ true
+    → (n : ℕ) → n < g .provided → sectorAt (volumeIn (worldAfter (hmacTagOf key) g v es .medium)) (dataAt g n) ≡ ledgerAfter (hmacTagOf key) g v es .contents n
+keyed-home key ok g v e es q = demand3-hmac key g v (sym (ap (λ (o : FormatResult). o .answer) (keyed-calls .taken key ok .format g v)) ∙ e) es q .home
