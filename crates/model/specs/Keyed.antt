@@ -1,4 +1,5 @@
--- The calls with a key, R105 and R106: each is the call of the same name over the key's tags, with one rule more. The proofs are in proofs/Keyed.
+-- The calls with a key, R105 and R106: each is the call of the same name over the key's tags, with one rule more. The calls without a key stay as they are, R108.
+-- The proofs are in proofs/Keyed.
 --
 -- withKey key rows      : the rules of a call with the key's put in right behind the first, which is its first check for 1
 -- formatKeyedOf, openKeyedOf, writeKeyedOf, readKeyedOf : the calls; their arguments behind the key are those of the calls without one
