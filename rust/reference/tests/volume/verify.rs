@@ -4,7 +4,7 @@ use crate::setting::{committing, filling, filling_with, recovering, with_section
 use crate::setting::{LAYOUT, SECTORS};
 use random::{cases, Random, Reached};
 use reference::volume::{read, verify, Half, Layout, Phase, Refusal, State, TagRule};
-use volumes::any::{any_layout, any_number, any_state, any_volume, small_layout};
+use volumes::any::{any_layout, any_range, any_state, any_volume, small_layout};
 use volumes::keyed::{any_key, other_key, retag, wrong_key_length};
 use volumes::{empty_staging, formatted, formatted_by, geometry, Entry};
 
@@ -28,25 +28,6 @@ fn damaged(random: &mut Random, layout: &Layout, rule: TagRule) -> Vec<u8> {
         volume[start + random.length(0..=length - 1)] ^= 1 << random.length(0..=7);
     }
     volume
-}
-
-/// A range of sectors, most of them provided.
-fn any_range(random: &mut Random, provided: u64) -> (u64, u64) {
-    let first = random.number() % (provided + 1);
-    let any = any_number(random);
-    let count = match random.number() % 8 {
-        0 => any,
-        1 => u64::MAX - first,
-        2 => (u64::MAX - first).wrapping_add(1),
-        3 => provided - first + 1,
-        4 => provided - first,
-        _ => random.number() % (provided - first + 1),
-    };
-    match random.number() % 16 {
-        0 => (any, count),
-        1 => (provided + 1, count),
-        _ => (first, count),
-    }
 }
 
 /// What a verify must answer, told by reads of a volume with an empty batch.
