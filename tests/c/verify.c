@@ -1,6 +1,6 @@
 /*
- * gaffreel_volume_verify and gaffreel_volume_verify_keyed: R91's volume (r 0, T 32, N 16, S 1, P 16), each sector and tag of it damaged,
- * ranges of any size, phases, keys of the lengths at which a rule changes, and the order of refusals. Also compiled as C++.
+ * The volume's verify of the C interface, without a key and with one: R91's volume (r 0, T 32, N 16, S 1, P 16), each sector and tag
+ * of it damaged, ranges of any size, phases, the lengths of keys, and the order of refusals. Also compiled as C++.
  */
 #undef NDEBUG
 

@@ -17,9 +17,9 @@
 //!
 //! Without a key a tag is made by SHA-256, which anybody can compute. [`format_keyed`], [`open_keyed`], [`write_keyed`],
 //! [`read_keyed`] and [`verify_keyed`] make and test tags by HMAC with SHA-256 under a key of 1 to
-//! [`LONGEST_KEY`](crate::LONGEST_KEY) bytes, the same at every call of a volume; the other calls take none. Neither volume nor state keeps the key, or that there is one: a wrong one
-//! shows only where a tag is tested and differs, and a write under it is not noticed. [`Volume`] keeps the key that it is opened
-//! with, so that no other can be meant later.
+//! [`LONGEST_KEY`](crate::LONGEST_KEY) bytes, the same at every call of a volume; the other calls take none. Neither volume nor
+//! state keeps the key, or that there is one: a wrong one shows only where a tag is tested and differs, and a write under it is
+//! not noticed. [`Volume`] keeps the key that it is opened with, so that no other can be meant later.
 //!
 //! ```
 //! use gaffreel::volume::{self, Layout, SECTOR_LENGTH};
@@ -356,9 +356,9 @@ pub fn read_keyed(
     Ok(())
 }
 
-/// Tests the tags of `count` sectors from `first` on against the volume's data; for a sector that is in the batch too, whose entry is
-/// not looked at. Refused with the first sector whose tag does not fit, [`Refusal::Tag`]; a check goes on behind it. Only for a
-/// volume that is filling: in other phases data and tag of a sector may be stored only in part.
+/// Tests the tags of `count` sectors from `first` on against the volume's data. The batch is not looked at. Refused with the
+/// first sector whose tag does not fit, [`Refusal::Tag`]: a check of a whole volume goes on behind it. Only for a volume that is
+/// filling: in other phases data and tag of a sector may be stored only in part.
 pub fn verify(state: &State, volume: &[u8], first: u64, count: u64) -> Result<(), Refusal> {
     let state = state.to_bytes();
     let reply =

@@ -178,8 +178,8 @@ impl<B: AsRef<[u8]>> Volume<B> {
         Ok(out)
     }
 
-    /// Tests the tags of `count` sectors from `first` on: [`verify`](super::verify), with the key that the volume was opened with, if
-    /// there is one.
+    /// Tests the tags of `count` sectors from `first` on: [`verify`](super::verify), with the key that the volume was opened
+    /// with, if there is one.
     pub fn verify(&self, first: u64, count: u64) -> Result<(), Refusal> {
         self.nothing_due()?;
         let (state, bytes) = (&self.state, self.bytes());

@@ -2,8 +2,8 @@
 
 use super::{loan, Phase, Refusal, State, TagRule};
 
-/// Tests the tags of `count` sectors from `first` on, against the volume's data alone: what a batch in staging holds for them is not
-/// looked at. Only for a volume that is filling: in other phases data and tag of a sector may be stored only in part.
+/// Tests the tags of `count` sectors from `first` on against the volume's data; the batch in staging is not looked at. Only for a
+/// volume that is filling: in other phases data and tag of a sector may be stored only in part.
 pub fn verify(
     state: &State,
     volume: &[u8],

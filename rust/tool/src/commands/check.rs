@@ -78,7 +78,7 @@ fn warn_of_key(path: &Path, tags: &Tags) {
     }
 }
 
-/// The sectors that one call tests: enough that setting the key up, once in a call, costs little, and few enough that the bar moves.
+/// The sectors that one call tests: so many that setting the key up, once in a call, costs little, and so few that the bar moves.
 const CHUNK: u64 = 1024;
 
 /// The sectors whose tags do not fit. A call stops at the first of them, so the next goes on behind it.
