@@ -48,10 +48,12 @@
  *     gaffreel_volume_next_store    1,728
  *     gaffreel_volume_advance       3,712
  *     gaffreel_volume_read          3,200
+ *     gaffreel_volume_verify        3,200
  *     gaffreel_volume_format_keyed  4,096
  *     gaffreel_volume_open_keyed    4,096
  *     gaffreel_volume_write_keyed   4,096
  *     gaffreel_volume_read_keyed    4,096
+ *     gaffreel_volume_verify_keyed  3,200
  *     gaffreel_tree_length             64
  *     gaffreel_tree_build           2,816
  *     gaffreel_tree_verify          2,560
@@ -189,7 +191,7 @@ enum gaffreel_answer {
     GAFFREEL_TAG_MISMATCH = 7,
     /* Refused: the batch is full. */
     GAFFREEL_FULL = 8,
-    /* Refused: not now: write and flush are for a volume that is filling, and read for one that is not recovering. */
+    /* Refused: not now: write, flush and verify are for a volume that is filling, and read for one that is not recovering. */
     GAFFREEL_NOT_NOW = 9,
     /* Refused: the commit ids are used up. */
     GAFFREEL_EXHAUSTED = 10,
@@ -455,6 +457,20 @@ uint32_t gaffreel_volume_read(const uint8_t *state, size_t state_length, const u
                               size_t bytes_length, uint8_t *answer, size_t answer_length);
 
 /*
+ * Tests the tags of the `count` logical sectors from `first` on against the volume's data. The batch is not looked at: for a
+ * sector that is in it, the volume's data is tested. Nothing is changed but the answer.
+ *
+ * Refused, in this order, with
+ *   - GAFFREEL_LENGTH_OR_LIMIT where a buffer has a wrong length, the state is not sound, or it does not fit the volume;
+ *   - GAFFREEL_NOT_NOW where the volume is not filling: a sector's data and tag may then be stored only in part;
+ *   - GAFFREEL_SECTOR_RANGE where first and count come to more than the sectors provided; both may be any numbers;
+ *   - GAFFREEL_TAG_MISMATCH for the first sector whose tag does not fit. Those behind it are not looked at: a check of a whole
+ *     volume goes on behind it.
+ */
+uint32_t gaffreel_volume_verify(const uint8_t *state, size_t state_length, const uint8_t *volume, size_t volume_length,
+                                size_t first, size_t count, uint8_t *answer, size_t answer_length);
+
+/*
  * ---- The volume with a key
  *
  * The calls above make tags by SHA-256, which anybody can compute. Those below make and test them by HMAC with SHA-256 under a
@@ -468,8 +484,9 @@ uint32_t gaffreel_volume_read(const uint8_t *state, size_t state_length, const u
  *
  * The same key is lent at every call of a volume, from format on. Neither volume nor state keeps the key, or that there is one.
  *   - A wrong key, or a call without one, shows only where a tag is tested and differs, as GAFFREEL_TAG_MISMATCH: at open for an
- *     entry that is to be replayed, at read for a sector that is not in the batch. It cannot be told from damage. An open with
- *     nothing to replay takes any key; a read behind it, of a sector that is known to be good, tells the right one.
+ *     entry that is to be replayed, at read for a sector that is not in the batch, at verify for any. It cannot be told from
+ *     damage. An open with nothing to replay takes any key; a read behind it, of a sector that is known to be good, tells the
+ *     right one.
  *   - A write under a wrong key, or without one, is not noticed: its batch is committed and acknowledged with tags of that key.
  *     Under the right key its sectors are then refused until they are written again, and every open is as long as the
  *     batch stands whole in the journal.
@@ -494,11 +511,19 @@ uint32_t gaffreel_volume_write_keyed(uint8_t *state, size_t state_length, uint8_
                                      size_t sector, const uint8_t *bytes, size_t bytes_length, const uint8_t *key,
                                      size_t key_length, uint8_t *answer, size_t answer_length);
 
-/* As gaffreel_volume_read, with a key. */
+/*
+ * As gaffreel_volume_read, with a key. A check of many sectors is cheaper by gaffreel_volume_verify_keyed: each read sets the key
+ * up anew.
+ */
 uint32_t gaffreel_volume_read_keyed(const uint8_t *state, size_t state_length, const uint8_t *volume,
                                     size_t volume_length, const uint8_t *staging, size_t staging_length, size_t sector,
                                     uint8_t *bytes, size_t bytes_length, const uint8_t *key, size_t key_length,
                                     uint8_t *answer, size_t answer_length);
+
+/* As gaffreel_volume_verify, with a key, which is set up once for all sectors of the call. */
+uint32_t gaffreel_volume_verify_keyed(const uint8_t *state, size_t state_length, const uint8_t *volume,
+                                      size_t volume_length, size_t first, size_t count, const uint8_t *key,
+                                      size_t key_length, uint8_t *answer, size_t answer_length);
 
 /*
  * ---- The hash tree (dm-verity, format 1)

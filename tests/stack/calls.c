@@ -37,7 +37,8 @@ enum {
     OF_OPEN = OF_QUERY | EXHAUSTED | MISPLACED | SECTOR_RANGE | TAG_MISMATCH,
     OF_WRITE = ALWAYS | NOT_NOW | SECTOR_RANGE | FULL,
     OF_STEP = ALWAYS | SECTOR_RANGE,
-    OF_READ = ALWAYS | NOT_NOW | SECTOR_RANGE | TAG_MISMATCH
+    OF_READ = ALWAYS | NOT_NOW | SECTOR_RANGE | TAG_MISMATCH,
+    OF_VERIFY = OF_READ
 };
 
 #define ROW(function, answers) {#function, (any_function *)function, answers, 0, 0, 0}
@@ -57,10 +58,12 @@ static struct call calls[] = {
     ROW(gaffreel_volume_next_store, OF_STEP),
     ROW(gaffreel_volume_advance, OF_STEP),
     ROW(gaffreel_volume_read, OF_READ),
+    ROW(gaffreel_volume_verify, OF_VERIFY),
     ROW(gaffreel_volume_format_keyed, OF_FORMAT),
     ROW(gaffreel_volume_open_keyed, OF_OPEN),
     ROW(gaffreel_volume_write_keyed, OF_WRITE | OUT_OF_RANGE),
     ROW(gaffreel_volume_read_keyed, OF_READ | OUT_OF_RANGE),
+    ROW(gaffreel_volume_verify_keyed, OF_VERIFY | OUT_OF_RANGE),
     ROW(gaffreel_tree_length, 0),
     ROW(gaffreel_tree_build, ALWAYS | OUT_OF_RANGE),
     ROW(gaffreel_tree_verify, ALWAYS | OUT_OF_RANGE | MISMATCH),

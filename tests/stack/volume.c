@@ -83,6 +83,14 @@ uint64_t read_sector(const struct given *g) {
                 LENT(g->answer));
 }
 
+uint64_t verify_sectors(const struct given *g) {
+    if (g->keyed) {
+        return CALL(gaffreel_volume_verify_keyed, LENT(g->state), LENT(g->volume), g->sector, g->count, LENT(g->key),
+                    LENT(g->answer));
+    }
+    return CALL(gaffreel_volume_verify, LENT(g->state), LENT(g->volume), g->sector, g->count, LENT(g->answer));
+}
+
 void begin(size_t width, size_t sections, size_t key_length) {
     fill(key, KEY_ROOM);
     fit = (struct given){

@@ -29,11 +29,14 @@ enum {
     COMMIT_ID_AT = 504
 };
 
-/* What a call is given; each takes its part of it. Format, open, write and read are those with the key where `keyed` is set. */
+/*
+ * What a call is given; each takes its part of it. Format, open, write, read and verify are those with the key where `keyed` is set.
+ * Verify begins at `sector`.
+ */
 struct given {
     struct loan volume, staging, state, layout, bytes, answer, key;
     int keyed;
-    size_t reserved, shift, width, sections, provided, sector, steps;
+    size_t reserved, shift, width, sections, provided, sector, count, steps;
 };
 
 /* What fits the volume at hand. */
@@ -42,7 +45,7 @@ extern struct given fit;
 typedef uint64_t volume_call(const struct given *given);
 
 volume_call format_volume, query_volume, open_volume, write_sector, flush_batch, make_step, make_next_store, advance_steps,
-    read_sector;
+    read_sector, verify_sectors;
 
 /* A fresh volume, open, with tags of so many bytes and so many sections, and a key of so many bytes; without a key where these are 0. */
 void begin(size_t width, size_t sections, size_t key_length);

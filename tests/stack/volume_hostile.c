@@ -14,7 +14,7 @@ enum {
 
 static volume_call *const calls[] = {
     format_volume, query_volume,    open_volume,   write_sector, flush_batch,
-    make_step,     make_next_store, advance_steps, read_sector,
+    make_step,     make_next_store, advance_steps, read_sector,  verify_sectors,
 };
 
 static void change_byte(uint8_t *at, size_t length) {
@@ -65,6 +65,7 @@ static struct given any_given(void) {
     g.bytes = any_length(g.bytes);
     g.answer = any_length(g.answer);
     g.sector = draw(8) ? draw(g.provided) : draw_number();
+    g.count = draw(8) ? draw(g.provided - (g.sector < g.provided ? g.sector : 0) + 1) : draw_number();
     g.steps = draw(2) ? draw(300) : draw_number();
     if (draw(8) == 0) {
         *numbers[draw(sizeof numbers / sizeof *numbers)] = draw_number();

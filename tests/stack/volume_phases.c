@@ -73,11 +73,32 @@ static void commit_batch(void) {
     }
 }
 
+/* Verifies of all sectors and of the last, which are answered so; and of none, and of such as are not there. */
+static void verify_each(uint64_t answer) {
+    int now = answer != GAFFREEL_NOT_NOW;
+    uint64_t of_none = now ? GAFFREEL_DONE : GAFFREEL_NOT_NOW, beyond = now ? GAFFREEL_SECTOR_RANGE : GAFFREEL_NOT_NOW;
+    struct {
+        size_t first, count;
+        uint64_t answer;
+    } ranges[] = {
+        {0, fit.provided, answer}, {fit.provided - 1, 1, answer}, {fit.provided, 0, of_none}, {0, fit.provided + 1, beyond},
+        {1, SIZE_MAX, beyond},     {SIZE_MAX, 0, beyond},         {SIZE_MAX, SIZE_MAX, beyond},
+    };
+    struct given g = fit;
+    size_t i;
+    for (i = 0; i < sizeof ranges / sizeof *ranges; i++) {
+        g.sector = ranges[i].first;
+        g.count = ranges[i].count;
+        assert(verify_sectors(&g) == ranges[i].answer);
+    }
+}
+
 static void committing(void) {
     size_t i;
     for (i = 0; i < SPREAD; i++) {
         put_phase(GAFFREEL_VOLUME_COMMITTING, spread(section_size(), i), 0);
         step_each_way(GAFFREEL_DONE);
+        verify_each(GAFFREEL_NOT_NOW);
     }
     put_phase(GAFFREEL_VOLUME_COMMITTING, section_size(), 0);
     step_each_way(GAFFREEL_LENGTH_OR_LIMIT);
@@ -90,6 +111,7 @@ static void write_entry_back(size_t entry) {
     for (half = 0; half < 2; half++) {
         put_phase(GAFFREEL_VOLUME_WRITING_BACK, entry, half);
         step_each_way(GAFFREEL_DONE);
+        verify_each(GAFFREEL_NOT_NOW);
         put_number(at, 0, fit.provided);
         step_each_way(GAFFREEL_SECTOR_RANGE);
         put_number(at, 0, sector);
@@ -149,6 +171,7 @@ static void recovering(void) {
     stores = number_at(fit.answer.at, 0);
     assert(stores == 2 * entry_count() * fit.sections && phase() == GAFFREEL_VOLUME_RECOVERING);
     assert(write_sector(&fit) == GAFFREEL_NOT_NOW && read_sector(&fit) == GAFFREEL_NOT_NOW);
+    verify_each(GAFFREEL_NOT_NOW);
     for (i = 0; i < SPREAD; i++) {
         recover_entry(spread(fit.sections, i), spread(entry_count(), i));
     }
@@ -158,15 +181,17 @@ static void recovering(void) {
     assert(step_by(WAYS - 1) == GAFFREEL_DONE && phase() == GAFFREEL_VOLUME_FILLING);
 }
 
-/* A volume that is filling: reads of the volume and of the batch, good and damaged, and a flush without an id left. */
+/* A volume that is filling: reads of the volume and of the batch and verifies, good and damaged; a flush without an id left. */
 static void filling(void) {
     uint8_t *last_byte = fit.volume.at + fit.volume.length - 1;
     uint64_t id = number_at(fit.state.at, ID_AT);
     step_each_way(GAFFREEL_DONE);
     fit.sector = fit.provided - 1;
     assert(read_sector(&fit) == GAFFREEL_DONE);
+    verify_each(GAFFREEL_DONE);
     *last_byte ^= 1;
     assert(read_sector(&fit) == GAFFREEL_TAG_MISMATCH);
+    verify_each(GAFFREEL_TAG_MISMATCH);
     *last_byte ^= 1;
     assert(flush_batch(&fit) == GAFFREEL_DONE);
     fill_batch();
@@ -183,9 +208,11 @@ static void filling(void) {
 /* The calls with a key on a volume that is filling, with keys of each of the lengths: wrong ones, and such as are refused. */
 static void other_keys(void) {
     static uint8_t other[KEY_ROOM];
-    volume_call *const with_key[] = {format_volume, open_volume, write_sector, read_sector};
+    volume_call *const with_key[] = {format_volume, open_volume, write_sector, read_sector, verify_sectors};
     struct given g = fit;
     size_t i;
+    g.sector = 0;
+    g.count = g.provided;
     for (i = 0; i < KEY_LENGTHS * sizeof with_key / sizeof *with_key; i++) {
         size_t length = key_lengths[i % KEY_LENGTHS];
         uint64_t answer;

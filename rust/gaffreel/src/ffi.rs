@@ -171,6 +171,17 @@ unsafe extern "C" {
         answer_length: usize,
     ) -> u32;
 
+    fn gaffreel_volume_verify(
+        state: *const u8,
+        state_length: usize,
+        volume: *const u8,
+        volume_length: usize,
+        first: usize,
+        count: usize,
+        answer: *mut u8,
+        answer_length: usize,
+    ) -> u32;
+
     fn gaffreel_volume_format_keyed(
         volume: *mut u8,
         volume_length: usize,
@@ -223,6 +234,19 @@ unsafe extern "C" {
         sector: usize,
         bytes: *mut u8,
         bytes_length: usize,
+        key: *const u8,
+        key_length: usize,
+        answer: *mut u8,
+        answer_length: usize,
+    ) -> u32;
+
+    fn gaffreel_volume_verify_keyed(
+        state: *const u8,
+        state_length: usize,
+        volume: *const u8,
+        volume_length: usize,
+        first: usize,
+        count: usize,
         key: *const u8,
         key_length: usize,
         answer: *mut u8,
@@ -545,6 +569,29 @@ pub fn volume_read(
     }
 }
 
+/// Tests the tags of many sectors.
+pub fn volume_verify(
+    state: &[u8],
+    volume: &[u8],
+    first: usize,
+    count: usize,
+    answer: &mut [u8],
+) -> u32 {
+    // SAFETY: each pointer and length are those of one slice, borrowed for the call, and `answer` overlaps nothing.
+    unsafe {
+        gaffreel_volume_verify(
+            state.as_ptr(),
+            state.len(),
+            volume.as_ptr(),
+            volume.len(),
+            first,
+            count,
+            answer.as_mut_ptr(),
+            answer.len(),
+        )
+    }
+}
+
 /// [`volume_format`] with a key.
 #[allow(clippy::too_many_arguments)] // those of the C interface
 pub fn volume_format_keyed(
@@ -653,6 +700,32 @@ pub fn volume_read_keyed(
             sector,
             bytes.as_mut_ptr(),
             bytes.len(),
+            key.as_ptr(),
+            key.len(),
+            answer.as_mut_ptr(),
+            answer.len(),
+        )
+    }
+}
+
+/// [`volume_verify`] with a key.
+pub fn volume_verify_keyed(
+    state: &[u8],
+    volume: &[u8],
+    first: usize,
+    count: usize,
+    key: &[u8],
+    answer: &mut [u8],
+) -> u32 {
+    // SAFETY: each pointer and length are those of one slice, borrowed for the call, and `answer` overlaps nothing.
+    unsafe {
+        gaffreel_volume_verify_keyed(
+            state.as_ptr(),
+            state.len(),
+            volume.as_ptr(),
+            volume.len(),
+            first,
+            count,
             key.as_ptr(),
             key.len(),
             answer.as_mut_ptr(),

@@ -24,7 +24,7 @@ pub enum Refusal {
         /// The number of sectors needed.
         needed: u64,
     },
-    /// The logical sector asked for is not below the number provided.
+    /// The logical sector asked for, or one of those, is not below the number provided.
     Sector,
     /// The logical sector of a staged entry is not below the number provided.
     StagedSector {

@@ -13,11 +13,13 @@
 //! Where the volume can be read in place and not stored to, as flash that is mapped for reading, [`next_store`] stands for
 //! [`step`]: it tells the step's store, and the volume's owner makes it.
 //!
-//! Without a key a tag is made by SHA-256, which anybody can compute. [`format_keyed`], [`open_keyed`], [`write_keyed`] and
-//! [`read_keyed`] make and test tags by HMAC with SHA-256 under a key of 1 to [`LONGEST_KEY`](crate::LONGEST_KEY) bytes, the same
-//! at every call of a volume; the other calls take none. Neither volume nor state keeps the key, or that there is one: a wrong one
-//! shows only where a tag is tested and differs, and a write under it is not noticed. [`Volume`] keeps the key that it is opened
-//! with, so that no other can be meant later.
+//! [`verify`] tests the tags of many sectors at once: a check of a whole volume by it is cheaper than by [`read`].
+//!
+//! Without a key a tag is made by SHA-256, which anybody can compute. [`format_keyed`], [`open_keyed`], [`write_keyed`],
+//! [`read_keyed`] and [`verify_keyed`] make and test tags by HMAC with SHA-256 under a key of 1 to
+//! [`LONGEST_KEY`](crate::LONGEST_KEY) bytes, the same at every call of a volume; the other calls take none. Neither volume nor
+//! state keeps the key, or that there is one: a wrong one shows only where a tag is tested and differs, and a write under it is
+//! not noticed. [`Volume`] keeps the key that it is opened with, so that no other can be meant later.
 //!
 //! ```
 //! use gaffreel::volume::{self, Layout, SECTOR_LENGTH};
@@ -349,6 +351,33 @@ pub fn read_keyed(
     let state = state.to_bytes();
     let reply = Reply::of(|answer| {
         ffi::volume_read_keyed(&state, volume, staging, size(sector), out, key, answer)
+    });
+    reply.done()?;
+    Ok(())
+}
+
+/// Tests the tags of `count` sectors from `first` on against the volume's data. The batch is not looked at. Refused with the
+/// first sector whose tag does not fit, [`Refusal::Tag`]: a check of a whole volume goes on behind it. Only for a volume that is
+/// filling: in other phases data and tag of a sector may be stored only in part.
+pub fn verify(state: &State, volume: &[u8], first: u64, count: u64) -> Result<(), Refusal> {
+    let state = state.to_bytes();
+    let reply =
+        Reply::of(|answer| ffi::volume_verify(&state, volume, size(first), size(count), answer));
+    reply.done()?;
+    Ok(())
+}
+
+/// [`verify`] with a key, which is set up once for all these sectors; each [`read_keyed`] sets it up anew.
+pub fn verify_keyed(
+    state: &State,
+    volume: &[u8],
+    first: u64,
+    count: u64,
+    key: &[u8],
+) -> Result<(), Refusal> {
+    let state = state.to_bytes();
+    let reply = Reply::of(|answer| {
+        ffi::volume_verify_keyed(&state, volume, size(first), size(count), key, answer)
     });
     reply.done()?;
     Ok(())

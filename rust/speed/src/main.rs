@@ -19,6 +19,7 @@ fn main() {
     tree_verified();
     volume::journal_recovered();
     volume::sectors_checked();
+    volume::sectors_verified();
     volume::sectors_checked_with_a_key();
     volume::recovery_by_sections();
 }

@@ -162,39 +162,46 @@ pub fn journal_recovered() {
     journal.assert_same();
 }
 
+/// How many sectors a verify is asked for at once: what the tool's check asks for.
+const CHUNK: u64 = 1024;
+
 /// Every sector of a volume of 32 MiB read, and its tag computed; a few don't fit.
 pub fn sectors_checked() {
-    checked_by("61344 sectors checked", TagRule::Digest);
+    checked_by("61344 sectors checked", TagRule::Digest, bad_by_reads);
 }
 
-/// The same with a key. Rust keeps the states behind the key's pads for the whole check; a read of the C interface takes the key anew,
-/// and has two blocks more to compress beside the ten of the sector.
+/// The same by verifies, of 1,024 sectors each.
+pub fn sectors_verified() {
+    checked_by("61344 sectors verified", TagRule::Digest, bad_by_verifies);
+}
+
+/// The same with a key. Rust keeps the states behind the key's pads for the whole check, a verify for its 1,024 sectors: the proved
+/// side has two blocks more to compress at each call.
 pub fn sectors_checked_with_a_key() {
     let key = pattern(32);
-    checked_by("61344 sectors checked with a key", TagRule::Hmac(&key));
+    let name = "61344 sectors checked with a key, by verify";
+    checked_by(name, TagRule::Hmac(&key), bad_by_verifies);
 }
 
-fn checked_by(name: &str, rule: TagRule) {
+/// The sectors of an open volume whose tags don't fit.
+type Bad = fn(&gaffreel::volume::State, &[u8], &[u8], TagRule) -> Vec<u64>;
+
+fn checked_by(name: &str, rule: TagRule, bad: Bad) {
     let layout = greatest_layout(32, 1);
     assert_eq!(layout.provided, 61_344);
     let geometry = geometry(&layout);
-    let mut volume = formatted_by(rule, &layout, 0);
-    let data = pattern(geometry.provided * 512);
-    let (sectors, _) = data.as_chunks();
-    for (number, bytes) in (0..).zip(sectors) {
-        let home = geometry.home(number).expect("it is provided");
-        let mut tag = rule.of_sector(number, bytes).expect("the key is in range");
-        tag[31] ^= u8::from(number % 10_000 == 9_999);
-        volume[home.data * 512..][..512].copy_from_slice(bytes);
-        volume[home.tag..][..32].copy_from_slice(&tag);
-    }
+    let volume = with_bad_sectors(&layout, &geometry, rule);
     let mut staging = vec![1; geometry.staging_length()];
     let mut proved = vec![];
     let mut rust = vec![];
     compare(
         name,
-        data.len(),
-        || proved = bad_sectors(black_box(&volume), &mut staging, rule),
+        geometry.provided * 512,
+        || {
+            let volume = black_box(&volume);
+            let state = opened(volume, &mut staging, rule);
+            proved = bad(&state, volume, &staging, rule);
+        },
         || {
             rust = reference::volume::check(black_box(&volume), 0, rule)
                 .expect("the volume is good")
@@ -205,25 +212,78 @@ fn checked_by(name: &str, rule: TagRule) {
     assert_eq!(proved, rust);
 }
 
-/// The sectors that cannot be read, since their tags don't fit.
-fn bad_sectors(volume: &[u8], staging: &mut [u8], rule: TagRule) -> Vec<u64> {
-    use gaffreel::volume::{open, open_keyed, read, read_keyed};
+/// A volume whose sectors are not all alike; every 10,000th has a wrong tag.
+fn with_bad_sectors(layout: &Layout, geometry: &Geometry, rule: TagRule) -> Vec<u8> {
+    let mut volume = formatted_by(rule, layout, 0);
+    let data = pattern(geometry.provided * 512);
+    let (sectors, _) = data.as_chunks();
+    for (number, bytes) in (0..).zip(sectors) {
+        let home = geometry.home(number).expect("it is provided");
+        let mut tag = rule.of_sector(number, bytes).expect("the key is in range");
+        tag[31] ^= u8::from(number % 10_000 == 9_999);
+        volume[home.data * 512..][..512].copy_from_slice(bytes);
+        volume[home.tag..][..32].copy_from_slice(&tag);
+    }
+    volume
+}
+
+fn opened(volume: &[u8], staging: &mut [u8], rule: TagRule) -> gaffreel::volume::State {
+    use gaffreel::volume::{open, open_keyed};
     let opened = match rule {
         TagRule::Digest => open(volume, 0, staging),
         TagRule::Hmac(key) => open_keyed(volume, 0, staging, key),
     };
-    let state = opened.expect("the volume is good").state;
+    opened.expect("the volume is good").state
+}
+
+/// Reads every sector.
+fn bad_by_reads(
+    state: &gaffreel::volume::State,
+    volume: &[u8],
+    staging: &[u8],
+    rule: TagRule,
+) -> Vec<u64> {
+    use gaffreel::volume::{read, read_keyed};
     let mut out = [0; 512];
     (0..state.layout.provided)
         .filter(|&sector| {
             let answer = match rule {
-                TagRule::Digest => read(&state, volume, staging, sector, &mut out),
-                TagRule::Hmac(key) => read_keyed(&state, volume, staging, sector, &mut out, key),
+                TagRule::Digest => read(state, volume, staging, sector, &mut out),
+                TagRule::Hmac(key) => read_keyed(state, volume, staging, sector, &mut out, key),
             };
             assert!(answer.is_ok() || answer == Err(Refusal::Tag { sector }));
             answer.is_err()
         })
         .collect()
+}
+
+/// Verifies chunk by chunk, and goes on behind each sector that is named.
+fn bad_by_verifies(
+    state: &gaffreel::volume::State,
+    volume: &[u8],
+    _staging: &[u8],
+    rule: TagRule,
+) -> Vec<u64> {
+    use gaffreel::volume::{verify, verify_keyed};
+    let provided = state.layout.provided;
+    let mut bad = vec![];
+    let mut next = 0;
+    while next < provided {
+        let count = CHUNK.min(provided - next);
+        let answer = match rule {
+            TagRule::Digest => verify(state, volume, next, count),
+            TagRule::Hmac(key) => verify_keyed(state, volume, next, count, key),
+        };
+        next = match answer {
+            Ok(()) => next + count,
+            Err(Refusal::Tag { sector }) => {
+                bad.push(sector);
+                sector + 1
+            }
+            Err(other) => unreachable!("{other}"),
+        };
+    }
+    bad
 }
 
 /// A table: how the times of open and of the recovery grow with the number of sections, all full. The recovery is timed once

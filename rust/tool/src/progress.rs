@@ -30,7 +30,12 @@ impl Progress {
 
     /// One more part is done.
     pub fn advance(&mut self) {
-        self.done += 1;
+        self.advance_by(1);
+    }
+
+    /// So many more parts are done.
+    pub fn advance_by(&mut self, parts: u64) {
+        self.done += parts;
         self.show();
     }
 

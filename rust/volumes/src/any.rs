@@ -15,6 +15,27 @@ pub fn any_number(random: &mut Random) -> u64 {
     }
 }
 
+/// The first of some sectors and how many they are: in most cases all are below the number provided.
+pub fn any_range(random: &mut Random, provided: u64) -> (u64, u64) {
+    let first = random.number() % provided.saturating_add(1);
+    let left = provided - first;
+    let any = any_number(random);
+    let count = match random.number() % 8 {
+        0 => any,
+        // The greatest sum that there is, and the first that there is not.
+        1 => u64::MAX - first,
+        2 => (u64::MAX - first).saturating_add(1),
+        3 => left.saturating_add(1),
+        4 => left,
+        _ => random.number() % left.saturating_add(1),
+    };
+    match random.number() % 16 {
+        0 => (any, count),
+        1 => (provided.saturating_add(1), count),
+        _ => (first, count),
+    }
+}
+
 /// A small layout.
 pub fn small_layout(random: &mut Random) -> Layout {
     Layout {

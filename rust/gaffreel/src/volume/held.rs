@@ -30,7 +30,7 @@ pub type Sector = [u8; SECTOR_LENGTH];
 /// # }
 /// ```
 ///
-/// A volume with a key is given it once, where it is opened; reads and writes then take no other.
+/// A volume with a key is given it once, where it is opened; the calls behind take no other.
 ///
 /// ```
 /// use gaffreel::volume::{self, Layout, Volume, SECTOR_LENGTH};
@@ -96,8 +96,8 @@ impl<B: AsRef<[u8]>> Volume<B> {
     }
 
     /// The same with a key of 1 to [`LONGEST_KEY`](crate::LONGEST_KEY) bytes, the one that the volume was formatted with. It is
-    /// kept in memory, for each write and read, until the volume is dropped, and is not wiped then. Where there is nothing to replay any
-    /// key is taken: a read of a sector that is known to be good tells the right one.
+    /// kept in memory, for each write, read and verify, until the volume is dropped, and is not wiped then. Where there is
+    /// nothing to replay any key is taken: a read of a sector that is known to be good tells the right one.
     pub fn open_keyed(bytes: B, reserved: u64, key: &[u8]) -> Result<Volume<B>, Refusal> {
         Volume::open_by(bytes, reserved, Tags::Hmac(key.to_vec()))
     }
@@ -176,6 +176,17 @@ impl<B: AsRef<[u8]>> Volume<B> {
             Tags::Hmac(key) => super::read_keyed(state, bytes, staging, sector, &mut out, key)?,
         }
         Ok(out)
+    }
+
+    /// Tests the tags of `count` sectors from `first` on: [`verify`](super::verify), with the key that the volume was opened
+    /// with, if there is one.
+    pub fn verify(&self, first: u64, count: u64) -> Result<(), Refusal> {
+        self.nothing_due()?;
+        let (state, bytes) = (&self.state, self.bytes());
+        match &self.tags {
+            Tags::Digest => super::verify(state, bytes, first, count),
+            Tags::Hmac(key) => super::verify_keyed(state, bytes, first, count, key),
+        }
     }
 
     /// The store that comes next, for bytes that can be read in place and not stored to: [`next_store`](super::next_store).

@@ -3,8 +3,8 @@
 use crate::loans::{Loans, DONE};
 use random::{cases, Lent, Random};
 use reference::volume::{Layout, Phase, State, TagRule};
-use volumes::any::{any_layout, any_number, any_section, any_staging, any_state, any_volume};
-use volumes::any::{small_layout, with_journal};
+use volumes::any::{any_layout, any_number, any_range, any_section, any_staging, any_state};
+use volumes::any::{any_volume, small_layout, with_journal};
 use volumes::keyed::{any_key, other_key, retag, wrong_key_length};
 use volumes::{formatted, geometry};
 
@@ -41,6 +41,12 @@ fn any_sector(random: &mut Random, layout: &Layout) -> u64 {
     }
 }
 
+/// Often sectors that a layout provides.
+fn any_verify(random: &mut Random, loans: &mut Loans, layout: &Layout) {
+    let (first, count) = any_range(random, layout.provided);
+    loans.verify(first, count);
+}
+
 /// How many steps an advance takes.
 fn any_steps(random: &mut Random) -> u64 {
     match random.number() % 4 {
@@ -64,6 +70,7 @@ fn any_call() {
         loans.clone().write(sector);
         loans.clone().flush();
         loans.clone().read(sector);
+        any_verify(random, &mut loans.clone(), &layout);
         loans.clone().advance(any_steps(random));
         let mut told = loans.clone();
         let mut loans = loans;
@@ -76,7 +83,7 @@ fn any_call() {
 
 /// One call of any kind; most can be taken.
 fn one_call(random: &mut Random, loans: &mut Loans, layout: &Layout) {
-    match random.number() % 16 {
+    match random.number() % 18 {
         0..=4 => {
             loans.fill(random, |lent| &mut lent.bytes);
             loans.write(any_sector(random, layout));
@@ -96,6 +103,7 @@ fn one_call(random: &mut Random, loans: &mut Loans, layout: &Layout) {
         13 | 14 => {
             loans.read(any_sector(random, layout));
         }
+        15 | 16 => any_verify(random, loans, layout),
         _ => {
             loans.cut(random);
             loans.open(layout.reserved);
@@ -143,7 +151,9 @@ fn filling_volumes() {
         for _ in 0..3 {
             loans.read(random.number() % layout.provided);
             loans.write(any_sector(random, &layout));
+            any_verify(random, &mut loans, &layout);
         }
+        loans.verify(0, layout.provided);
         loans.flush();
         loans.read(random.number() % layout.provided);
         loans.advance(u64::MAX);
@@ -184,6 +194,7 @@ fn any_call_with_a_key() {
         let sector = any_sector(random, &layout);
         loans.clone().write(sector);
         loans.clone().read(sector);
+        any_verify(random, &mut loans, &layout);
     });
 }
 

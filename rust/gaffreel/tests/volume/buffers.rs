@@ -6,7 +6,7 @@ use crate::loans::{Buffers, Loans};
 use gaffreel::volume::{State, MOST_SECTORS, STATE_LENGTH};
 use random::{cases, Lent, Random};
 use reference::volume::{self, Half, Layout, Phase};
-use volumes::any::any_number;
+use volumes::any::{any_number, any_range};
 use volumes::keyed::{any_key, wrong_key_length};
 use volumes::{empty_staging, formatted, geometry, put_section, section, Entry};
 
@@ -43,7 +43,7 @@ pub fn sound(random: &mut Random) -> Loans {
     loans
 }
 
-/// Each call, each on loans of its own; format, open, write and read also with a key, which may have a wrong length too.
+/// Each call, each on loans of its own; format, open, write, read and verify also with a key, which may have a wrong length too.
 fn each_call(random: &mut Random, loans: &Loans) {
     each_call_as_it_is(random, loans);
     let mut loans = loans.clone();
@@ -65,6 +65,8 @@ fn each_call_as_it_is(random: &mut Random, loans: &Loans) {
     loans.clone().next_store();
     loans.clone().advance(random.pick(&[0, 1, 5, u64::MAX]));
     loans.clone().read(sector);
+    let (first, count) = any_range(random, LAYOUT.provided);
+    loans.clone().verify(first, count);
     let mut loans = loans.clone();
     if loans.lent().volume.bytes().len() >= 9 * 512 && random.number().is_multiple_of(2) {
         // Else the superblock is not zero.
@@ -187,6 +189,8 @@ fn volumes_around_the_limit() {
             let fits = u32::from(length != MOST_SECTORS * 512);
             assert_eq!(loans.query(LAYOUT.reserved), fits);
             assert_eq!(loans.open(LAYOUT.reserved), fits);
+            // Open leaves a recovery.
+            assert_eq!(loans.verify(0, 5), if fits == 0 { 9 } else { 1 });
             for step in [Loans::next_store, Loans::step] {
                 // Staging too: open made it an empty section.
                 loans.lend(|lent| &mut lent.state, &good.lent().state);

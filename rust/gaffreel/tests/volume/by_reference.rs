@@ -243,6 +243,32 @@ pub fn volume_read_keyed(
     })
 }
 
+pub fn volume_verify(
+    state: &[u8],
+    volume: &[u8],
+    first: usize,
+    count: usize,
+    answer: &mut [u8],
+) -> u32 {
+    on(&mut state.to_vec(), answer, |state| {
+        volume::verify(state, volume, first as u64, count as u64, TagRule::Digest).map(|()| [0; 5])
+    })
+}
+
+pub fn volume_verify_keyed(
+    state: &[u8],
+    volume: &[u8],
+    first: usize,
+    count: usize,
+    key: &[u8],
+    answer: &mut [u8],
+) -> u32 {
+    on(&mut state.to_vec(), answer, |state| {
+        let rule = TagRule::Hmac(key);
+        volume::verify(state, volume, first as u64, count as u64, rule).map(|()| [0; 5])
+    })
+}
+
 /// Makes a call on the state in a buffer.
 fn on(
     buffer: &mut [u8],

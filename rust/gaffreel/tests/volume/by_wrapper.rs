@@ -220,6 +220,35 @@ pub fn volume_read_keyed(
     Some(reply(answer, read.map(|()| [0; 5])))
 }
 
+pub fn volume_verify(
+    state: &[u8],
+    volume: &[u8],
+    first: usize,
+    count: usize,
+    answer: &mut [u8],
+) -> Option<u32> {
+    let answer = answer_in(answer)?;
+    let verified = on(&mut state.to_vec(), |state| {
+        volume::verify(state, volume, first as u64, count as u64)
+    })?;
+    Some(reply(answer, verified.map(|()| [0; 5])))
+}
+
+pub fn volume_verify_keyed(
+    state: &[u8],
+    volume: &[u8],
+    first: usize,
+    count: usize,
+    key: &[u8],
+    answer: &mut [u8],
+) -> Option<u32> {
+    let answer = answer_in(answer)?;
+    let verified = on(&mut state.to_vec(), |state| {
+        volume::verify_keyed(state, volume, first as u64, count as u64, key)
+    })?;
+    Some(reply(answer, verified.map(|()| [0; 5])))
+}
+
 /// Makes a call on the state in a buffer, if there is one.
 fn on<Answer>(buffer: &mut [u8], call: impl FnOnce(&mut State) -> Answer) -> Option<Answer> {
     let buffer: &mut [u8; STATE_LENGTH] = buffer.try_into().ok()?;

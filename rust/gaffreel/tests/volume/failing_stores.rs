@@ -111,6 +111,7 @@ impl Flash<'_> {
             assert_eq!(self.volume.write(0, content), Err(Refusal::NotNow));
             assert_eq!(self.volume.flush(), Err(Refusal::NotNow));
             assert_eq!(self.volume.read(0), Err(Refusal::NotNow));
+            assert_eq!(self.volume.verify(0, 1), Err(Refusal::NotNow));
             let mut again = any_sector(self.random);
             assert_eq!(self.volume.next_store(&mut again), Ok(stepped));
             assert!(again == *content);
@@ -131,13 +132,14 @@ impl Flash<'_> {
         }
     }
 
-    /// Each sector is what the ledger says.
+    /// Each sector is what the ledger says, and each tag fits.
     fn check(&self) {
         for sector in 0..self.layout.provided {
             let newest = self.ledger.newest(sector).unwrap();
             assert!(self.volume.read(sector).unwrap() == newest[..]);
             count_compared();
         }
+        assert_eq!(self.volume.verify(0, self.layout.provided), Ok(()));
     }
 
     /// A batch, in some cases cut, or left where it is.

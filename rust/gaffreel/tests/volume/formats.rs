@@ -31,7 +31,7 @@ fn unformatted(random: &mut Random, layout: &Layout, sectors: usize) -> Vec<u8> 
     volume
 }
 
-/// Formatted, queried, opened, and a few sectors read.
+/// Formatted, queried, opened, a few sectors read and all verified.
 #[test]
 fn formats() {
     formats_under(|_| None);
@@ -60,6 +60,7 @@ fn formats_under(key: fn(&mut Random) -> Option<Vec<u8>>) {
             assert_eq!(loans.read(sector), DONE);
             assert_eq!(loans.lent().bytes.bytes(), [0; 512]);
         }
+        assert_eq!(loans.verify(0, layout.provided), DONE);
     });
 }
 
@@ -119,6 +120,8 @@ fn greatest_volumes() {
                 assert_eq!(loans.format(&layout), DONE);
                 assert_eq!(loans.open(reserved), DONE);
                 assert_eq!(loans.read(provided - 1), DONE);
+                assert_eq!(loans.verify(0, provided), DONE);
+                assert_eq!(loans.verify(1, provided), 6);
             }
         }
     });

@@ -5,7 +5,7 @@
 use crate::loans::{Loans, DONE};
 use random::{cases, Lent, Random, Reached};
 use reference::volume::{Geometry, Layout, TagRule};
-use volumes::any::any_number;
+use volumes::any::{any_number, any_range};
 use volumes::keyed::{any_key, other_key, wrong_key_length};
 use volumes::{formatted_by, geometry, put_id, put_ids};
 
@@ -13,7 +13,7 @@ use volumes::{formatted_by, geometry, put_id, put_ids};
 type Answered = (&'static str, u32);
 
 /// What histories answer in plenty.
-const OFTEN: [Answered; 13] = [
+const OFTEN: [Answered; 16] = [
     ("query", DONE),
     ("open", DONE),
     ("write", DONE),
@@ -27,10 +27,13 @@ const OFTEN: [Answered; 13] = [
     ("read", DONE),
     ("read", 6),
     ("read", 9),
+    ("verify", DONE),
+    ("verify", 6),
+    ("verify", 9),
 ];
 
 /// What they answer where bytes are damaged, ids used up or batches full.
-const SELDOM: [Answered; 15] = [
+const SELDOM: [Answered; 17] = [
     ("query", 4),
     ("open", 4),
     ("open", 6),
@@ -46,10 +49,12 @@ const SELDOM: [Answered; 15] = [
     ("next_store", 6),
     ("advance", 6),
     ("read", 7),
+    ("verify", 1),
+    ("verify", 7),
 ];
 
 /// What the calls with a key answer besides, where they come with another.
-const WITH_ANOTHER_KEY: [Answered; 7] = [
+const WITH_ANOTHER_KEY: [Answered; 9] = [
     ("open with another key", DONE),
     ("open with another key", 2),
     ("open with another key", 7),
@@ -57,6 +62,8 @@ const WITH_ANOTHER_KEY: [Answered; 7] = [
     ("write with another key", 2),
     ("read with another key", 2),
     ("read with another key", 7),
+    ("verify with another key", 2),
+    ("verify with another key", 7),
 ];
 
 /// Small volumes, so that all their bytes are soon compared.
@@ -203,6 +210,15 @@ impl History<'_> {
         }
     }
 
+    fn verifies(&mut self) {
+        for _ in 0..2 {
+            let (first, count) = any_range(self.random, self.layout.provided);
+            self.with_a_key("verify", "verify with another key", |loans| {
+                loans.verify(first, count)
+            });
+        }
+    }
+
     /// Power is lost, a few calls find no state, and the volume is opened, or else another is.
     fn cut(&mut self) {
         self.loans.cut(self.random);
@@ -210,6 +226,7 @@ impl History<'_> {
             self.write();
             self.flush();
             self.steps();
+            self.verifies();
         }
         let number = self.loans.query(self.layout.reserved);
         self.answered("query", number);
@@ -270,7 +287,8 @@ impl History<'_> {
             16..=27 => self.flush(),
             28..=43 => self.steps(),
             44..=49 => self.advance(),
-            50..=57 => self.reads(),
+            50..=54 => self.reads(),
+            55..=57 => self.verifies(),
             58..=61 => self.cut(),
             62 => self.damage(),
             _ if self.random.number().is_multiple_of(4) => self.replace_id(),

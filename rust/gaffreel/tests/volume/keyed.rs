@@ -2,7 +2,8 @@
 //! that keep their key.
 
 use crate::loans::{Loans, DONE};
-use gaffreel::volume::{format_keyed, read, read_keyed, State, Volume, SECTOR_LENGTH};
+use gaffreel::volume::{format_keyed, read, read_keyed, verify, verify_keyed};
+use gaffreel::volume::{State, Volume, SECTOR_LENGTH};
 use gaffreel::Refusal;
 use random::{cases, Random};
 use reference::volume::Layout;
@@ -44,7 +45,7 @@ fn after_stores(random: &mut Random, layout: &Layout, key: Option<&[u8]>, stores
     loans
 }
 
-/// Each of the four calls takes a key of 1 to 256 bytes, and refuses any other, with nothing changed.
+/// Each of the five calls takes a key of 1 to 256 bytes, and refuses any other, with nothing changed.
 #[test]
 fn lengths_of_keys() {
     cases(1, |random| {
@@ -66,6 +67,7 @@ fn lengths_of_keys() {
             loans.put_key(random, Some(&key));
             assert_eq!(loans.clone().open(0), expected);
             assert_eq!(loans.clone().read(3), expected);
+            assert_eq!(loans.clone().verify(0, LAYOUT.provided), expected);
             assert_eq!(loans.write(3), expected);
         }
     });
@@ -83,6 +85,7 @@ fn a_batch_under_a_key() {
             let to_come = if stores < COMMIT_STORES { 0 } else { 2 };
             assert_eq!(loans.answer()[0], to_come);
             assert_eq!(loans.advance(u64::MAX), DONE);
+            assert_eq!(loans.verify(0, LAYOUT.provided), DONE);
             for sector in 0..LAYOUT.provided {
                 assert_eq!(loans.read(sector), DONE);
             }
@@ -119,6 +122,8 @@ fn wrong_and_missing_keys() {
                 for sector in 0..layout.provided {
                     assert_eq!(loans.read(sector), TAG_MISMATCH);
                     assert_eq!(loans.answer()[..2], [1, sector]);
+                    assert_eq!(loans.verify(sector, 1), TAG_MISMATCH);
+                    assert_eq!(loans.answer()[..2], [1, sector]);
                 }
             }
         }
@@ -148,6 +153,7 @@ fn writes_under_a_wrong_key() {
             for sector in 0..LAYOUT.provided {
                 let expected = if sector == 5 { at_5 } else { elsewhere };
                 assert_eq!(loans.clone().read(sector), expected);
+                assert_eq!(loans.clone().verify(sector, 1), expected);
             }
             let mut again = loans.clone();
             again.cut(random);
@@ -166,7 +172,7 @@ fn wrapped(layout: &Layout) -> gaffreel::volume::Layout {
     }
 }
 
-/// A volume that is opened with a key reads and writes with it.
+/// A volume that is opened with a key reads, writes and verifies with it.
 #[test]
 fn volumes_that_keep_their_key() {
     let key = b"of the cabinet";
@@ -178,6 +184,7 @@ fn volumes_that_keep_their_key() {
     volume.advance(u64::MAX).unwrap();
     assert_eq!(volume.read(5), Ok([1; SECTOR_LENGTH]));
     assert_eq!(volume.read(4), Ok([0; SECTOR_LENGTH]));
+    assert_eq!(volume.verify(0, LAYOUT.provided), Ok(()));
     assert_tags(volume.state(), volume.bytes(), key);
 
     let bytes = volume.into_bytes();
@@ -190,7 +197,7 @@ fn volumes_that_keep_their_key() {
     assert!(again.bytes() == bytes);
 }
 
-/// Every sector is read with the key, and none without it.
+/// Every sector is read and verified with the key, and none without it.
 fn assert_tags(state: &State, bytes: &[u8], key: &[u8]) {
     let staging = vec![0; 88 * SECTOR_LENGTH];
     let mut out = [0; SECTOR_LENGTH];
@@ -199,6 +206,8 @@ fn assert_tags(state: &State, bytes: &[u8], key: &[u8]) {
         assert_eq!(with_key, Ok(()));
         let without = read(state, bytes, &staging, sector, &mut out);
         assert_eq!(without, Err(Refusal::Tag { sector }));
+        assert_eq!(verify_keyed(state, bytes, sector, 1, key), Ok(()));
+        assert_eq!(verify(state, bytes, sector, 1), without);
     }
 }
 

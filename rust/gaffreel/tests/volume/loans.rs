@@ -27,7 +27,7 @@ pub struct Buffers {
 
 #[derive(Clone)]
 pub struct Loans {
-    /// Whether format, open, write and read are the calls with a key.
+    /// Whether format, open, write, read and verify are the calls with a key.
     keyed: bool,
     proved: Buffers,
     wrapped: Buffers,
@@ -136,7 +136,7 @@ impl Loans {
         }
     }
 
-    /// Has format, open, write and read be those with this key; with none, those without one.
+    /// Has format, open, write, read and verify be those with this key; with none, those without one.
     pub fn put_key(&mut self, random: &mut Random, key: Option<&[u8]>) {
         self.keyed = key.is_some();
         if let Some(key) = key {
@@ -349,6 +349,34 @@ impl Loans {
                 lent.staging.bytes(),
                 sector as usize,
                 lent.bytes.buffer(),
+                lent.answer.buffer()
+            )
+        )
+    }
+
+    pub fn verify(&mut self, first: u64, count: u64) -> u32 {
+        if self.keyed {
+            return same!(
+                self,
+                lent,
+                volume_verify_keyed(
+                    lent.state.bytes(),
+                    lent.volume.bytes(),
+                    first as usize,
+                    count as usize,
+                    lent.key.bytes(),
+                    lent.answer.buffer()
+                )
+            );
+        }
+        same!(
+            self,
+            lent,
+            volume_verify(
+                lent.state.bytes(),
+                lent.volume.bytes(),
+                first as usize,
+                count as usize,
                 lent.answer.buffer()
             )
         )

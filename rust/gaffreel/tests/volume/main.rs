@@ -10,7 +10,7 @@
 //! - `orders`: each refusal of each call, alone and before each later one.
 //! - `refusals`: each refusal by the safe wrapper: its values and what it says.
 //! - `buffers`: buffers of wrong lengths, state buffers of any bytes, volumes around the greatest length.
-//! - `formats`: formatted volumes, the greatest too, and formats that are refused.
+//! - `formats`: formatted volumes, the greatest too, all their tags verified, and formats that are refused.
 //! - `advances`: so many steps at once against as many single ones.
 //! - `next_stores`: stores told, on a volume that is mapped for reading only, against steps; cuts before and after each.
 //! - `failing_stores`: the same by the safe wrapper, with stores that fail or are given up, against the ledger.

@@ -28,7 +28,9 @@ struct Input {
     /// The arguments.
     layout: Layout,
     reserved: u64,
+    /// The sector, or the first of them, and how many they are.
     sector: u64,
+    count: u64,
     steps: u64,
     key: Option<Vec<u8>>,
 }
@@ -70,6 +72,7 @@ fn good(random: &mut Random) -> Input {
         layout,
         reserved: layout.reserved,
         sector: layout.provided - 1,
+        count: 1,
         steps: random.pick(&[2, 3, u64::MAX]),
         key: None,
     }
@@ -280,6 +283,24 @@ const SECTOR: Fault = (6, |random, input| {
     input.sector = random.pick(&[sector, u64::MAX]);
 });
 
+/// Sectors of which not all are provided, or, where there is none, that begin behind them.
+const RANGE: Fault = (6, |random, input| {
+    let provided = input.geometry.provided as u64;
+    let beyond = not_provided(random, input);
+    (input.sector, input.count) = random.pick(&[
+        (0, provided + 1),
+        (provided - 1, 2),
+        (provided, 1),
+        (provided + 1, 0),
+        (beyond, 1),
+        (0, beyond + 1),
+        (1, u64::MAX),
+        (u64::MAX, 0),
+        (u64::MAX, 1),
+        (u64::MAX, u64::MAX),
+    ]);
+});
+
 const FULL: Fault = (8, |_, input| {
     input.state[COUNT] = input.geometry.entries as u64
 });
@@ -473,6 +494,36 @@ fn of_read() {
     });
 }
 
+/// Sectors that are provided, at least one, and any number of entries in the batch.
+fn with_sectors(random: &mut Random, mut input: Input) -> Input {
+    let provided = input.layout.provided;
+    input.sector = random.number() % provided;
+    input.count = 1 + random.number() % (provided - input.sector);
+    input.state[COUNT] = random.number() % 4;
+    input
+}
+
+const LENGTHS_OF_VERIFY: [Fault; 6] = [
+    ANSWER,
+    STATE,
+    UNSOUND,
+    PART_OF_A_SECTOR,
+    SHORT_FOR_STATE,
+    STORE,
+];
+
+#[test]
+fn of_verify() {
+    cases(150, |random| {
+        let faults = [&LENGTHS_OF_VERIFY[..], &[NOT_FILLING, RANGE, TAGS]].concat();
+        let input = good(random);
+        let input = with_sectors(random, input);
+        every_two(random, &input, &faults, |loans, input| {
+            loans.verify(input.sector, input.count)
+        });
+    });
+}
+
 #[test]
 fn of_format_with_a_key() {
     cases(200, |random| {
@@ -536,6 +587,19 @@ fn of_read_with_a_key() {
         input.state[COUNT] = random.number() % 4;
         every_two(random, &input, &faults, |loans, input| {
             loans.read(input.sector)
+        });
+    });
+}
+
+#[test]
+fn of_verify_with_a_key() {
+    cases(150, |random| {
+        let others = [KEY, NOT_FILLING, RANGE, TAGS, WRONG_KEY];
+        let faults = [&LENGTHS_OF_VERIFY[..], &others].concat();
+        let input = good_with_key(random);
+        let input = with_sectors(random, input);
+        every_two(random, &input, &faults, |loans, input| {
+            loans.verify(input.sector, input.count)
         });
     });
 }

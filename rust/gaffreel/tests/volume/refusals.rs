@@ -1,7 +1,9 @@
 //! Each refusal of each call, by the safe wrapper: its number, its values and what it says.
 
-use gaffreel::volume::{advance, flush, format, next_store, open, query, read, step, write};
-use gaffreel::volume::{format_keyed, open_keyed, read_keyed, write_keyed};
+use gaffreel::volume::{
+    advance, flush, format, next_store, open, query, read, step, verify, write,
+};
+use gaffreel::volume::{format_keyed, open_keyed, read_keyed, verify_keyed, write_keyed};
 use gaffreel::volume::{Layout, Phase, State, Stopped, Volume};
 use gaffreel::Refusal;
 use volumes::{put_id, put_section, section, Entry};
@@ -255,6 +257,35 @@ fn of_read() {
     }
 }
 
+#[test]
+fn of_verify() {
+    let mut volume = with_section(0, 1, &[Entry::new(3, 1)]);
+    for sector in [7, 4] {
+        let home = geometry().home(sector).unwrap();
+        volume[home.data * 512] = 1;
+    }
+    let filling = in_phase(Phase::Filling, 0);
+    let committing = in_phase(Phase::Committing { sector: 0 }, 2);
+    let recovering = in_phase(Phase::Recovering { store: 1 }, 0);
+    let unsound = in_phase(Phase::Recovering { store: 2 }, 0);
+    for (state, first, count, answer) in [
+        (unsound, 0, 1, Err(Refusal::LengthOrState)),
+        (recovering, 0, 1, Err(Refusal::NotNow)),
+        (committing, 0, 1, Err(Refusal::NotNow)),
+        (filling, 0, 11, Err(Refusal::Sector)),
+        (filling, 11, 0, Err(Refusal::Sector)),
+        (filling, u64::MAX, u64::MAX, Err(Refusal::Sector)),
+        (filling, 0, 10, Err(Refusal::Tag { sector: 4 })),
+        (filling, 5, 5, Err(Refusal::Tag { sector: 7 })),
+        (filling, 8, 2, Ok(())),
+        (filling, 10, 0, Ok(())),
+    ] {
+        assert_eq!(verify(&state, &volume, first, count), answer);
+    }
+    let answer = verify(&filling, &volume[1..], 0, 0);
+    assert_eq!(answer, Err(Refusal::LengthOrState));
+}
+
 /// A key of a wrong length, and tags that do not fit under a key.
 #[test]
 fn of_the_calls_with_a_key() {
@@ -275,6 +306,7 @@ fn of_the_calls_with_a_key() {
         let mut out = [9; 512];
         let answer = read_keyed(&filling, &volume, &staging, 0, &mut out, &key);
         assert_eq!((answer, out), (refused, [9; 512]));
+        assert_eq!(verify_keyed(&filling, &volume, 11, 0, &key), refused);
         assert_eq!(Volume::open_keyed(&volume, 2, &key).map(|_| ()), refused);
         // 1 before 2, and 2 for the key before all others.
         let answer = Volume::open_keyed(&volume[1..], 2, &key).err();
@@ -291,6 +323,9 @@ fn of_the_calls_with_a_key() {
         &mut [9; 512],
         &key[1..],
     );
+    assert_eq!(answer, Err(Refusal::Tag { sector: 4 }));
+    assert_eq!(verify_keyed(&filling, &volume, 4, 6, &key), Ok(()));
+    let answer = verify_keyed(&filling, &volume, 4, 6, &key[1..]);
     assert_eq!(answer, Err(Refusal::Tag { sector: 4 }));
 }
 

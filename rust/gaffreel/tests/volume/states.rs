@@ -9,7 +9,7 @@ use crate::loans::{Loans, DONE};
 use gaffreel::volume::STATE_LENGTH;
 use random::{cases, Random, Reached};
 use reference::volume::{Geometry, Layout};
-use volumes::any::{any_number, any_section, with_journal};
+use volumes::any::{any_number, any_range, any_section, with_journal};
 use volumes::geometry;
 use volumes::keyed::{any_key, wrong_key_length};
 use volumes::kinds::stores_to_replay;
@@ -66,11 +66,19 @@ const OF_STATES: [Clause; 12] = [
     Clause::RecoveringBatch,
 ];
 
-/// The clauses that steps and read test too.
+/// The clauses that steps, read and verify test too.
 const ON_VOLUMES: [Clause; 2] = [Clause::RecoveringStore, Clause::ShortVolume];
 
 /// The calls that are given a state.
-const CALLS: [&str; 6] = ["write", "flush", "step", "next_store", "advance", "read"];
+const CALLS: [&str; 7] = [
+    "write",
+    "flush",
+    "step",
+    "next_store",
+    "advance",
+    "read",
+    "verify",
+];
 
 /// The clauses that a state breaks on a volume.
 fn broken(numbers: &StateNumbers, volume: &[u8]) -> Vec<Clause> {
@@ -188,6 +196,12 @@ fn spoil(random: &mut Random, numbers: &mut StateNumbers, geometry: &Geometry) {
     numbers[place] = number;
 }
 
+/// Few sectors, seldom any number of them.
+fn verify(random: &mut Random, loans: &mut Loans) -> u32 {
+    let (first, count) = any_range(random, 12);
+    loans.verify(first, count)
+}
+
 /// One call on a state, and whether its answer is as the broken clauses say.
 fn call(random: &mut Random, loans: &mut Loans, name: &'static str, broken: &[Clause]) {
     let sector = random.number() % 14;
@@ -197,7 +211,8 @@ fn call(random: &mut Random, loans: &mut Loans, name: &'static str, broken: &[Cl
         "step" => loans.step(),
         "next_store" => loans.next_store(),
         "advance" => loans.advance(random.pick(&[1, 2, 3, u64::MAX])),
-        _ => loans.read(sector),
+        "read" => loans.read(sector),
+        _ => verify(random, loans),
     };
     let refused = match name {
         "write" | "flush" => broken.iter().any(|clause| !ON_VOLUMES.contains(clause)),
@@ -208,7 +223,7 @@ fn call(random: &mut Random, loans: &mut Loans, name: &'static str, broken: &[Cl
 
 /// The same of the calls with a key: a state that is not sound is refused before the key is, and any other behind it.
 fn call_with_a_key(random: &mut Random, loans: &mut Loans, name: &'static str, broken: &[Clause]) {
-    if !["write", "read"].contains(&name) {
+    if !["write", "read", "verify"].contains(&name) {
         return;
     }
     let key = any_key(random);
@@ -223,7 +238,8 @@ fn call_with_a_key(random: &mut Random, loans: &mut Loans, name: &'static str, b
     let sector = random.number() % 14;
     let number = match name {
         "write" => loans.write(sector),
-        _ => loans.read(sector),
+        "read" => loans.read(sector),
+        _ => verify(random, loans),
     };
     let expected = if sound { OUT_OF_RANGE } else { LENGTH_OR_STATE };
     assert_eq!(number, expected, "{name} on {broken:?}");

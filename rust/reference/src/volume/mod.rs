@@ -23,6 +23,7 @@ mod state;
 mod step;
 mod superblock;
 mod tag;
+mod verify;
 mod write;
 
 pub use advance::{advance, Advanced};
@@ -41,4 +42,5 @@ pub use state::{Half, Phase, State};
 pub use step::{step, Said, Stepped};
 pub use superblock::SUPERBLOCK_SECTORS;
 pub use tag::{digest_of_sector, TagRule};
+pub use verify::verify;
 pub use write::write;

@@ -67,6 +67,7 @@ fn reads(world: &mut World, random: &mut Random) {
         world.read(sector);
     }
     world.read(world.layout.provided);
+    world.verify();
 }
 
 /// A cut, and cuts in the recoveries after it.

@@ -12,4 +12,5 @@ mod ledger;
 mod refusals;
 mod setting;
 mod soundness;
+mod verify;
 mod world;

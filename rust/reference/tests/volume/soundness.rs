@@ -3,7 +3,7 @@
 use crate::calls;
 use crate::setting::{committing, filling, filling_with, in_phase, writing_back};
 use crate::setting::{LAYOUT, SECTORS, STAGING};
-use reference::volume::{Half, Layout, Phase, Refusal, State, VOLUME_LIMIT};
+use reference::volume::{verify, Half, Layout, Phase, Refusal, State, TagRule, VOLUME_LIMIT};
 use volumes::{empty_staging, formatted, geometry, Entry};
 
 const LENGTH_OR_STATE: Refusal = Refusal::LengthOrState;
@@ -89,6 +89,8 @@ fn unsound_states() {
         let answer = calls::step(&mut state, &mut volume, &mut staging);
         assert_eq!(answer, Err(LENGTH_OR_STATE), "{state:?}");
         let answer = calls::read(&state, &volume, &staging, 10, &mut [0; 512]);
+        assert_eq!(answer, Err(LENGTH_OR_STATE), "{state:?}");
+        let answer = verify(&state, &volume, 11, 0, TagRule::Digest);
         assert_eq!(answer, Err(LENGTH_OR_STATE), "{state:?}");
         let answer = calls::recover(&mut state, &mut volume, &staging);
         assert_eq!(answer, Err(LENGTH_OR_STATE), "{state:?}");

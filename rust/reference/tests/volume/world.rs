@@ -4,7 +4,7 @@
 use crate::calls;
 use random::Random;
 use reference::volume::ledger::{Event, Ledger, Record};
-use reference::volume::{check, Flushed, Geometry, Layout, Phase, Refusal};
+use reference::volume::{check, verify, Flushed, Geometry, Layout, Phase, Refusal};
 use reference::volume::{Said, State, Stepped, TagRule};
 
 #[derive(Clone)]
@@ -222,6 +222,23 @@ impl World {
         self.record(Event::Read, answer.is_err());
     }
 
+    /// All tags tested at once: outside filling not now, and in it each fits.
+    pub fn verify(&self) {
+        let (state, _) = self.live.as_ref().unwrap();
+        let expected = match state.phase {
+            Phase::Filling => Ok(()),
+            _ => Err(Refusal::NotNow),
+        };
+        let answer = verify(
+            state,
+            &self.volume,
+            0,
+            self.layout.provided,
+            rule(&self.key),
+        );
+        assert_eq!(answer, expected);
+    }
+
     fn read_of(&self, sector: u64) -> Result<Vec<u8>, Refusal> {
         let (state, staging) = self.live.as_ref().unwrap();
         let mut out = vec![0x5a; 512];
@@ -244,6 +261,7 @@ impl World {
                 "read of {sector}"
             );
         }
+        self.verify();
         self.check_unchanged();
     }
 

@@ -2,7 +2,7 @@
 
 use crate::setting::{damage, with_sections, Ended, Folder, OTHER, SAMPLE};
 use random::Reached;
-use reference::volume::{check, Checked, Refusal, TagRule};
+use reference::volume::{check, Checked, Layout, Refusal, TagRule};
 use std::fs::File;
 use volumes::any::{any_volume, small_layout, with_journal};
 use volumes::{put_id, Entry};
@@ -79,6 +79,28 @@ fn document_01s_lines() {
     let bad =
         "tag 32 run 16 sections 1 provided 16\nreplay 0\nbad-sector 2\nbad-sector 11\nbad 2\n";
     assert_eq!(folder.run(&["check", "bad"]), Ended::with(1, bad, ""));
+}
+
+/// Bad sectors at the ends of a volume and of the pieces in which it is checked, alone, in a row, and all.
+#[test]
+fn bad_sectors_of_a_long_volume() {
+    let folder = Folder::new();
+    let layout = Layout {
+        log2_run: 6,
+        provided: 2_500,
+        ..SAMPLE
+    };
+    let whole = volumes::formatted(&layout, 0);
+    let edges = [0, 1023, 1024, 1025, 2047, 2048, 2499];
+    let row: Vec<u64> = (1000..1100).collect();
+    let all: Vec<u64> = (0..layout.provided).collect();
+    for bad in [&[], &edges[..], &edges[1..2], &row, &all] {
+        let mut volume = whole.clone();
+        for sector in bad {
+            damage(&mut volume, &layout, *sector);
+        }
+        assert_eq!(agrees(&folder, &volume, 0), i32::from(!bad.is_empty()));
+    }
 }
 
 /// Volumes of which open looks at length and superblock alone, the number of the refusal, and what is said of it.
