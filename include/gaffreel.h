@@ -492,8 +492,8 @@ uint32_t gaffreel_volume_verify(const uint8_t *state, size_t state_length, const
  *     batch stands whole in the journal.
  *   - A format under a wrong key makes a volume of that key.
  *
- * Left open: the key's bytes, and what is computed from them, may stay on the stack after a call; and no time is promised, so
- * that how long a comparison of tags takes may tell how many of their first bytes agree.
+ * Left open: the key's bytes, and what is computed from them, may stay on the stack after a call; and no time is promised. A
+ * comparison looks at all bytes of a tag, wherever they differ.
  */
 
 /* As gaffreel_volume_format, with a key. */
