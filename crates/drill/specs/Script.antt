@@ -29,10 +29,11 @@ eventSize = 4
 abbrev pub shortSize : ℕ
 shortSize = sectorSize - 1
 
-abbrev pub longKey : ℕ → List ℕ
+unfoldable pub longKey : ℕ → List ℕ
 longKey b = replicate (mostKey + 1) b
 
 pub long-key-refused : (b : ℕ) → keyOk (longKey b) ≡ false
+unfolding longKey
 long-key-refused b = ap (λ (n : ℕ). leb 1 n && leb n mostKey) (length-replicate {A = ℕ} (mostKey + 1) b)
 
 abbrev pub eventRows : ℕ → ℕ → ℕ → ℕ → List (Bool × Event)

@@ -1,3 +1,4 @@
+use Rattle.drill.specs.Script.{longKey}
 use lib.ListN.{length}
 use Rattle.drill.proofs.Turns as turns
 use borrow.Author.Needs.{needs}
@@ -14,6 +15,7 @@ returns-3 : tie.Need-returns-3
 returns-3 c = turns.writes-short (c .before .before .before .before .before .before .before .before .before .before .before .args .key .now) (c .before .before .before .before .before .before .before .before .before .before .before .args .r) (length (c .before .before .before .before .before .before .before .before .before .before .before .args .st .now)) (c .before .before .before .before .before .before .before .before .before .before .before .args .kind) (c .before .before .before .before .before .before .before .before .before .before .before .args .sector) (c .before .before .before .before .before .before .before .before .before .before .before .args .fill) (c .before .before .before .before .before .before .before .before .before .before .before .args .v .now) (c .before .before .before .before .before .before .before .before .before .before .before .args .s) (c .before .before .before .before .before .before .before .before .before .before .before .args .st .now) (c .before .before .write-event2 .result) _ (c .before .before .write-event2 .ensures) (c .before .before .before .before .before .if3 .taken)
 
 returns-4 : tie.Need-returns-4
+unfolding longKey
 returns-4 c = turns.writes-long (c .before .before .before .before .before .before .before .before .before .before .before .before .before .args .key .now) (c .before .before .before .before .before .before .before .before .before .before .before .before .before .args .r) (length (c .before .before .before .before .before .before .before .before .before .before .before .before .before .args .st .now)) (c .before .before .before .before .before .before .before .before .before .before .before .before .before .args .kind) (c .before .before .before .before .before .before .before .before .before .before .before .before .before .args .sector) (c .before .before .before .before .before .before .before .before .before .before .before .before .before .args .fill) (c .before .before .before .before .before .before .before .before .before .before .before .before .before .args .v .now) (c .before .before .before .before .before .before .before .before .before .before .before .before .before .args .s) (c .before .before .before .before .before .before .before .before .before .before .before .before .before .args .st .now) (c .before .before .keyed-write .result) _ (c .before .before .keyed-write .ensures) (c .before .before .before .before .before .before .if4 .taken)
 
 returns-5 : tie.Need-returns-5

@@ -1,3 +1,4 @@
+use Rattle.drill.specs.Script.{longKey}
 use Rattle.drill.proofs.Turns.{filled-long}
 use borrow.Author.Needs.{needs}
 use mathlib.Core.List.{[]}
@@ -5,6 +6,7 @@ use Rattle.drill.proofs.open_long_key.Statement.{statement}
 use Rattle.drill.proofs.open_long_key.Tie as tie
 
 returns : tie.Need-returns
+unfolding longKey
 returns c = filled-long [] (c .before .before .before .before .before .before .before .before .before .before .before .args .r) (c .before .before .before .before .before .before .before .before .before .before .before .args .fill) (c .before .before .before .before .before .before .before .before .before .before .before .args .v .now) (c .before .before .before .before .before .before .before .before .before .before .before .args .st .now) _ _ (c .before .before .before .before .before .before .before .fill-loan .ensures) (c .before .before .open-keyed .ensures)
 
 pub open-long-key-spec : {M : Type 1} → statement M
