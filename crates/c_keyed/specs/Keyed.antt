@@ -6,6 +6,7 @@
 --                                receives the state
 -- writeKeyedCall s st n b k a  : what gaffreel_volume_write_keyed leaves of the state's buffer s, staging st, sector n and its bytes b
 -- readKeyedCall s v st n b k a : what gaffreel_volume_read_keyed leaves; b is the buffer that receives the sector's bytes
+-- verifyKeyedCall s v n m k a  : what gaffreel_volume_verify_keyed leaves, for m sectors from n on
 -- RefusedKeyedKeeps            : a call that is refused leaves every buffer but the answer's as it was
 use Prim.Native.Nat.{ℕ}
 use mathlib.Core.Bool.{false, not}
@@ -15,12 +16,13 @@ use Rattle.octets.specs.Choice.{differs}
 use Rattle.octets.specs.Numbers.{Bytes}
 use Rattle.on_disk.specs.declared.Layout.{Layout}
 use Rattle.model.specs.Keyed.{formatKeyedOf, openKeyedOf, writeKeyedOf, readKeyedOf}
+use Rattle.model.specs.Verify.{verifyKeyedOf}
 use Rattle.c_numbers.specs.Sizes.{volumeStateSize}
 use Rattle.c_numbers.specs.Called.{Called, called, Keeps}
 use Rattle.c_volume_state.specs.VolumeState.{decodeOf, encodesState}
 use Rattle.c_setup.specs.Setup.{formatLeaves, OpenBuffers, openLeaves}
 use Rattle.c_batch.specs.Batch.{WriteBuffers, writeLeaves}
-use Rattle.c_read.specs.Reads.{readLeaves}
+use Rattle.c_read.specs.Reads.{readLeaves, verifyLeaves}
 
 -- it tests the answer's buffer alone
 unfoldable pub formatKeyedCall : List ℕ → Layout → List ℕ → List ℕ → Called (List ℕ)
@@ -36,6 +38,9 @@ writeKeyedCall s st n b k a =
 
 unfoldable pub readKeyedCall : List ℕ → List ℕ → List ℕ → ℕ → List ℕ → List ℕ → List ℕ → Called (List ℕ)
 readKeyedCall s v st n b k a = called a (not (encodesState s)) b (readLeaves (readKeyedOf k (decodeOf s) v st n b))
+
+unfoldable pub verifyKeyedCall : List ℕ → List ℕ → ℕ → ℕ → List ℕ → List ℕ → Called (Unit {0})
+verifyKeyedCall s v n m k a = called a (not (encodesState s)) tt (verifyLeaves (verifyKeyedOf k (decodeOf s) v n m))
 
 -- ---- refusals; the proofs are in proofs/Refusals
 

@@ -12,6 +12,7 @@ use c_replies::open_reply;
 use c_replies::put_opened;
 use c_replies::put_reply;
 use c_replies::read_reply;
+use c_replies::verify_reply;
 use c_replies::write_reply;
 use c_volume_state::decode;
 use c_volume_state::encode;
@@ -19,7 +20,7 @@ use c_volume_state::encodes_state;
 use on_disk::Layout;
 ghost use mathlib.Core.Path.{_≡_};
 ghost use Rattle.c_setup.specs.Setup.{layoutWith};
-ghost use Rattle.c_keyed.specs.Keyed.{formatKeyedCall, openKeyedCall, writeKeyedCall, readKeyedCall};
+ghost use Rattle.c_keyed.specs.Keyed.{formatKeyedCall, openKeyedCall, writeKeyedCall, readKeyedCall, verifyKeyedCall};
 
 // Formats a volume for a layout. Refused where the answer's buffer has a wrong length, or as formatting is.
 pub fn format_keyed(
@@ -120,4 +121,26 @@ pub fn read_keyed(
     }
     let said = volume::read::read_keyed(decode(state), v, staging, sector, bytes, key);
     put_reply(read_reply(said), answer)
+}
+
+// Verifies so many sectors. Refused where the answer's buffer has a wrong length, where the state's buffer holds no state, or as verifying is.
+pub fn verify_keyed(
+    state: &[u8],
+    v: &[u8],
+    first: usize,
+    count: usize,
+    key: &[u8],
+    answer: &mut [u8],
+) -> u32
+    ensures { λ r. ⌜ record { number = r; left = tt; answer = now (answer .exit) }
+        ≡ verifyKeyedCall (now (state .entry)) (now (v .entry)) first count (now (key .entry)) (now (answer .entry)) ⌝ }
+{
+    if answer.len() != answer_size() {
+        return wrong_length();
+    }
+    if !encodes_state(state) {
+        return refuse(answer);
+    }
+    let said = volume::verify::verify_keyed(decode(state), v, first, count, key);
+    put_reply(verify_reply(said), answer)
 }

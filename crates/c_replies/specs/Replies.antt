@@ -8,7 +8,7 @@
 -- doneReply a b c d e       : the reply of a call that was carried out, with these five numbers
 -- refusedReply r            : the reply of a call that was refused with r: how many values are also returned, then these
 -- withCounts r n k          : the reply r with n and k as its fourth and fifth number
--- plainReply a              : the reply to the answer a of format, write or read, which give nothing beside it
+-- plainReply a              : the reply to the answer a of format, write, read or verify, which give nothing beside it
 -- flushReply a, ..          : the reply to the answer a of the call of that name
 -- didOf d                   : what a step did, as a number: 0 where it did nothing, 1 where it stored a sector
 -- sectorOf d                : the sector that it stored, else 0

@@ -17,10 +17,11 @@ use model::ReadAnswer;
 use model::Refusal;
 use model::Says;
 use model::StepAnswer;
+use model::VerifyAnswer;
 use model::WriteAnswer;
 ghost use mathlib.Core.Path.{_≡_};
 ghost use lib.ListN.{length};
-ghost use Rattle.model.specs.Refusal.{refusalOf, formatAnswer, openAnswer, queryAnswer, writeAnswer, flushAnswer, stepAnswer, readAnswer};
+ghost use Rattle.model.specs.Refusal.{refusalOf, formatAnswer, openAnswer, queryAnswer, writeAnswer, flushAnswer, stepAnswer, readAnswer, verifyAnswer};
 ghost use Rattle.c_numbers.specs.Sizes.{layoutSize, volumeStateSize, answerSize};
 ghost use Rattle.c_replies.specs.Replies.{answerBytesOf, doneReply, refusedReply, withCounts, plainReply, flushReply, openReply, queryReply, didOf, sectorOf, saysOf, stepReply, openedBytes, heldBytes};
 
@@ -147,6 +148,16 @@ pub fn read_reply(a: ReadAnswer) -> Reply
     match a {
         ReadAnswer::Found => carried_out(0, 0, 0, 0, 0),
         ReadAnswer::Refused(r) => refused(r),
+    }
+}
+
+// The reply to what verify answers.
+pub fn verify_reply(a: VerifyAnswer) -> Reply
+    ensures { λ r. ⌜ r ≡ plainReply (verifyAnswer a) ⌝ }
+{
+    match a {
+        VerifyAnswer::Fits => carried_out(0, 0, 0, 0, 0),
+        VerifyAnswer::Refused(r) => refused(r),
     }
 }
 

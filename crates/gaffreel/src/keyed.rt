@@ -2,7 +2,7 @@
 // module volumes.
 ghost use mathlib.Core.Path.{_≡_};
 ghost use Rattle.c_setup.specs.Setup.{layoutWith};
-ghost use Rattle.c_keyed.specs.Keyed.{formatKeyedCall, openKeyedCall, writeKeyedCall, readKeyedCall};
+ghost use Rattle.c_keyed.specs.Keyed.{formatKeyedCall, openKeyedCall, writeKeyedCall, readKeyedCall, verifyKeyedCall};
 
 // Formats a volume for a layout.
 #[no_mangle]
@@ -69,4 +69,20 @@ pub extern "C" fn gaffreel_volume_read_keyed(
         ≡ readKeyedCall (now (state .entry)) (now (v .entry)) (now (staging .entry)) sector (now (bytes .entry)) (now (key .entry)) (now (answer .entry)) ⌝ }
 {
     c_keyed::read_keyed(state, v, staging, sector, bytes, key, answer)
+}
+
+// Verifies so many sectors, from this one on.
+#[no_mangle]
+pub extern "C" fn gaffreel_volume_verify_keyed(
+    state: &[u8],
+    v: &[u8],
+    first: usize,
+    count: usize,
+    key: &[u8],
+    answer: &mut [u8],
+) -> u32
+    ensures { λ r. ⌜ record { number = r; left = tt; answer = now (answer .exit) }
+        ≡ verifyKeyedCall (now (state .entry)) (now (v .entry)) first count (now (key .entry)) (now (answer .entry)) ⌝ }
+{
+    c_keyed::verify_keyed(state, v, first, count, key, answer)
 }

@@ -2,7 +2,7 @@
 ghost use mathlib.Core.Path.{_≡_};
 ghost use Rattle.c_setup.specs.Setup.{layoutWith, formatCall, queryCall, openCall};
 ghost use Rattle.c_batch.specs.Batch.{writeCall, flushCall};
-ghost use Rattle.c_read.specs.Reads.{readCall};
+ghost use Rattle.c_read.specs.Reads.{readCall, verifyCall};
 ghost use Rattle.c_step.specs.Steps.{stepBuffers, stepCall, advanceCall, nextStoreBuffers, nextStoreCall};
 
 // Formats a volume for a layout.
@@ -133,4 +133,19 @@ pub extern "C" fn gaffreel_volume_read(
         ≡ readCall (now (state .entry)) (now (v .entry)) (now (staging .entry)) sector (now (bytes .entry)) (now (answer .entry)) ⌝ }
 {
     c_read::read(state, v, staging, sector, bytes, answer)
+}
+
+// Verifies so many sectors, from this one on.
+#[no_mangle]
+pub extern "C" fn gaffreel_volume_verify(
+    state: &[u8],
+    v: &[u8],
+    first: usize,
+    count: usize,
+    answer: &mut [u8],
+) -> u32
+    ensures { λ r. ⌜ record { number = r; left = tt; answer = now (answer .exit) }
+        ≡ verifyCall (now (state .entry)) (now (v .entry)) first count (now (answer .entry)) ⌝ }
+{
+    c_read::verify(state, v, first, count, answer)
 }

@@ -18,16 +18,16 @@ use Rattle.model.specs.Read.{ReadResult, readRows, readBy, readOf}
 use Rattle.model.specs.Keyed.{withKey, formatKeyedOf, openKeyedWith, openKeyedOf, writeKeyedOf, readKeyedOf, AsOverTags, keyRefusal, KeyRefused, KeyedCalls}
 
 -- a key in range: the rule is not met
-with-key : (key : List ℕ) → keyOk key ≡ true → (rows : List (Bool × Verdict)) (z : Verdict) → firstMet (withKey key rows) z ≡ firstMet rows z
+pub with-key : (key : List ℕ) → keyOk key ≡ true → (rows : List (Bool × Verdict)) (z : Verdict) → firstMet (withKey key rows) z ≡ firstMet rows z
 with-key key e [] z = refl
 with-key key e (row ∷ rows) z = ap (λ (b : Bool). pick (row .0) (row .1) (pick (not b) (refuse 2 []) (firstMet rows z))) e
 
 -- any other: the first rule, or this one
-first : List (Bool × Verdict) → Verdict → Verdict
+unfoldable pub first : List (Bool × Verdict) → Verdict → Verdict
 first [] z = z
 first (row ∷ rows) z = pick (row .0) (row .1) (refuse 2 [])
 
-without-key : (key : List ℕ) → keyOk key ≡ false → (rows : List (Bool × Verdict)) (z : Verdict) → firstMet (withKey key rows) z ≡ first rows z
+pub without-key : (key : List ℕ) → keyOk key ≡ false → (rows : List (Bool × Verdict)) (z : Verdict) → firstMet (withKey key rows) z ≡ first rows z
 unfolding first
 without-key key e [] z = refl
 without-key key e (row ∷ rows) z = ap (λ (b : Bool). pick (row .0) (row .1) (pick (not b) (refuse 2 []) (firstMet rows z))) e

@@ -21,6 +21,7 @@ pub mod Guarantees
 pub mod Advances
 pub mod ReadBack
 pub mod Keyed
+pub mod Verify
 pub mod WrongKey
 pub mod FirstRule
 pub mod NextStore

@@ -25,9 +25,11 @@ use Rattle.model.specs.declared.Says.{Says}
 use Rattle.model.specs.declared.State.{State}
 use Rattle.model.specs.declared.StepAnswer.{StepAnswer}
 use Rattle.model.specs.declared.StepAnswer.the-variants as stepping
+use Rattle.model.specs.declared.VerifyAnswer.{VerifyAnswer}
+use Rattle.model.specs.declared.VerifyAnswer.the-variants as verifying
 use Rattle.model.specs.declared.WriteAnswer.{WriteAnswer}
 use Rattle.model.specs.declared.WriteAnswer.the-variants as writing
-use Rattle.model.specs.Refusal.{refusalOf, formatAnswer, openAnswer, queryAnswer, writeAnswer, flushAnswer, stepAnswer, readAnswer, AnswersDiffer}
+use Rattle.model.specs.Refusal.{refusalOf, formatAnswer, openAnswer, queryAnswer, writeAnswer, flushAnswer, stepAnswer, readAnswer, verifyAnswer, AnswersDiffer}
 
 -- ---- a refusal
 
@@ -109,6 +111,10 @@ read-back : (a : ReadAnswer) → from (λ (x : Unit {0}). reading.Found) reading
 read-back reading.Found = refl
 read-back (reading.Refused r) = ap reading.Refused (told-back r)
 
+verify-back : (a : VerifyAnswer) → from (λ (x : Unit {0}). verifying.Fits) verifying.Refused (verifyAnswer a) ≡ a
+verify-back verifying.Fits = refl
+verify-back (verifying.Refused r) = ap verifying.Refused (told-back r)
+
 pub answers-differ : AnswersDiffer
 answers-differ =
     record {
@@ -119,4 +125,5 @@ answers-differ =
       flush = apart flushAnswer (from (λ (x : Bool). pick x flushing.Acknowledged flushing.Begun) flushing.Refused) flush-back;
       step = apart stepAnswer (from (λ (x : Done × Says). stepping.Stepped (x .0) (x .1)) stepping.Refused) step-back;
       read = apart readAnswer (from (λ (x : Unit {0}). reading.Found) reading.Refused) read-back;
+      verify = apart verifyAnswer (from (λ (x : Unit {0}). verifying.Fits) verifying.Refused) verify-back;
     }

@@ -165,6 +165,12 @@ pub enum ReadAnswer {
     Refused(Refusal),
 }
 
+pub enum VerifyAnswer {
+    // Every tag asked for fits its sector's data.
+    Fits,
+    Refused(Refusal),
+}
+
 // What write, flush and step hand back: the answer, and the state, which a refusal leaves as it was.
 pub struct Written {
     pub answer: WriteAnswer,

@@ -1,4 +1,4 @@
-// The volume's calls. Advance is here; format, query and open, write and flush, read, step and next_store are passed on from the crates that have them,
+// The volume's calls. Advance is here; format, query and open, write and flush, read, verify, step and next_store are passed on from the crates that have them,
 // with the bytes of the sector that a write or a read is lent. R35 to R51.
 //
 // Each call takes any volume, staging, sector, parameter or state, and gives exactly what the definition of its name in the model's specs gives, with
@@ -14,3 +14,4 @@ pub use volume_open::query;
 pub use volume_read::read;
 pub use volume_step::next_store;
 pub use volume_step::step;
+pub use volume_verify::verify;

@@ -36,8 +36,8 @@ fn newest_for(st: &[u8], t: usize, c: usize, sector: usize) -> usize
     c
 }
 
-// Whether the tag of a sector fits its data.
-fn tag_fits(rule: Rule, v: &[u8], g: Layout, sector: usize) -> bool
+// Whether the tag of a sector fits its data. It is no call: it is for the crates here, which have tested state and volume.
+pub fn tag_fits(rule: Rule, v: &[u8], g: Layout, sector: usize) -> bool
     requires { ⌜ (layoutOk g ≡ true) × (needed g * sectorSize ≤ length (now v)) × (sector < g .provided) ⌝ }
     ensures { λ r. ⌜ r ≡ same (tagAt g (now (v .entry)) sector) (tagBy rule (g .width) sector (sectorAt (now (v .entry)) (dataAt g sector))) ⌝ }
 {
