@@ -1,9 +1,9 @@
 // Read: R50, R51, R77; the model's specs/Read.antt.
+use crate::fits::tag_fits;
 use layout::SECTOR_SIZE;
 use model::ReadAnswer;
 use model::Refusal;
 use model::State;
-use on_disk::Layout;
 use sound::state;
 use sound::tag;
 use sound::tag::Rule;
@@ -11,10 +11,9 @@ ghost use mathlib.Core.Bool.{true, _&&_};
 ghost use mathlib.Core.Path.{_≡_};
 ghost use Prim.Native.Nat.{_*_, _≤_, _<_};
 ghost use lib.ListN.{length};
-ghost use Rattle.octets.specs.Parts.{same};
-ghost use Rattle.octets.specs.Sectors.{sectorSize, sectorAt};
-ghost use Rattle.on_disk.specs.Layout.{mostWidth, entryCount, sectionSize, dataAt, needed, layoutOk};
-ghost use Rattle.model.specs.Tag.{tagOf, tagAt};
+ghost use Rattle.octets.specs.Sectors.{sectorSize};
+ghost use Rattle.on_disk.specs.Layout.{mostWidth, entryCount, sectionSize};
+ghost use Rattle.model.specs.Tag.{tagOf};
 ghost use Rattle.model.specs.Refusal.{readAnswer};
 ghost use Rattle.model.specs.State.{stateOk, volumeOk, stagingOk, sectorOk};
 ghost use Rattle.model.specs.Read.{newestFor, readOf};
@@ -34,17 +33,6 @@ fn newest_for(st: &[u8], t: usize, c: usize, sector: usize) -> usize
         }
     }
     c
-}
-
-// Whether the tag of a sector fits its data. It is no call: it is for the crates here, which have tested state and volume.
-pub fn tag_fits(rule: Rule, v: &[u8], g: Layout, sector: usize) -> bool
-    requires { ⌜ (layoutOk g ≡ true) × (needed g * sectorSize ≤ length (now v)) × (sector < g .provided) ⌝ }
-    ensures { λ r. ⌜ r ≡ same (tagAt g (now (v .entry)) sector) (tagBy rule (g .width) sector (sectorAt (now (v .entry)) (dataAt g sector))) ⌝ }
-{
-    let start = layout::data_at(g, sector) * SECTOR_SIZE;
-    let end = start + SECTOR_SIZE;
-    let digest = tag::tag(rule, sector, &v[start..end]);
-    octets::same_at(v, layout::tag_byte(g, sector), &digest, 0, g.width)
 }
 
 // The first check: whether the state is sound, the volume one that it fits, and each other loan of its length.

@@ -6,7 +6,7 @@ use on_disk::Layout;
 use sound::state;
 use sound::tag;
 use sound::tag::Rule;
-use volume_read::read::tag_fits;
+use volume_read::fits::tag_fits;
 ghost use mathlib.Core.Bool.{true, not, _&&_};
 ghost use mathlib.Core.Path.{_≡_};
 ghost use Prim.Native.Nat.{suc, _+_, _*_, _≤_};

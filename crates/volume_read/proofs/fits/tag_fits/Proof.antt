@@ -6,8 +6,8 @@ use Rattle.octets.proofs.Parts.{length-part}
 use Rattle.volume_read.proofs.Reading.{fits-is}
 use Rattle.layout.proofs.Sizes.{width-high, provided-high}
 use Rattle.on_disk.proofs.Addresses.{ranged, data-room, tag-room, tag-inside, tag-sector}
-use Rattle.volume_read.proofs.read.tag_fits.Statement.{statement}
-use Rattle.volume_read.proofs.read.tag_fits.Tie as tie
+use Rattle.volume_read.proofs.fits.tag_fits.Statement.{statement}
+use Rattle.volume_read.proofs.fits.tag_fits.Tie as tie
 
 data-at-requires : tie.Need-data-at-requires
 data-at-requires c κs = (c .before .pre .0, omega (arith, provided-high (c .before .args .g) (c .before .pre .0)))
