@@ -3,7 +3,7 @@
 -- A row has what the definitions give, and the rule's numbers (`paper`). The claim, one for a table, is that they are the same in every row.
 use Prim.Native.Nat.{ℕ, _-_, _*_}
 use mathlib.Core.Bool.{Bool, true, _&&_}
-use mathlib.Core.List.{List, [], _∷_}
+use mathlib.Core.List.{List, [], _∷_, _++_}
 use mathlib.Core.Path.{_≡_, refl}
 use lib.IntN.{ℤ, pos, negsuc}
 use lib.ListN.{length, replicate}
@@ -22,8 +22,11 @@ use Rattle.model.specs.State.{stateOk, stagingOk}
 use Rattle.model.specs.Tag.{tagOf}
 use Rattle.model.specs.Format.{formatOf}
 use Rattle.model.specs.Write.{writeOf}
+use Rattle.model.specs.Keyed.{writeKeyedOf}
 use Rattle.digest.specs.declared.Answer.the-variants as digest
 use Rattle.digest.specs.Answer as digest-answers
+use Rattle.hmac.specs.declared.Answer.the-variants as hmac
+use Rattle.hmac.specs.Answer as hmac-answers
 use Rattle.tree.specs.declared.Answer.the-variants as tree
 use Rattle.tree.specs.Answer as tree-answers
 use Rattle.tree_path.specs.Places.{levelsAbove, levelsOf, hashBlocksOf, digestAt}
@@ -49,6 +52,10 @@ refusalIn (refused r) = r .number ∷ r .values
 
 abbrev opened : State
 opened = record { layout = bench 16; phase = Filling; count = 0; id = 1 }
+
+-- how a write with a key of n bytes is refused
+abbrev keyed : ℕ → List ℕ
+keyed n = refusalIn (writeKeyedOf (replicate n 75) opened (emptySection 32) 5 (replicate 512 0) .answer)
 
 -- the hash blocks of the tree over n data blocks
 abbrev hashBlocks : ℕ → ℕ
@@ -80,6 +87,11 @@ table =
       given = dataAt (bench 16) 5 ∷ tagByte (bench 16) 5 ∷ refusalIn (writeOf tagOf opened (emptySection 32) 16 (replicate 512 0) .answer);
       paper = 109 ∷ 49312 ∷ 6 ∷ [];
     } ∷
+    -- a write to sector 5 with keys of 0, 1, 256 and 257 bytes, R106
+    record {
+      given = keyed 0 ++ (keyed 1 ++ (keyed 256 ++ keyed 257));
+      paper = 2 ∷ 2 ∷ [];
+    } ∷
     -- P 20: the sectors needed, and where logical sector 17 lies, and its tag: in the second run
     record { given = needed (bench 20) ∷ dataAt (bench 20) 17 ∷ tagByte (bench 20) 17 ∷ []; paper = 132 ∷ 129 ∷ 61472 ∷ [] } ∷
     -- S 3: the sections of the ids 1, 3 and 4, R31
@@ -104,7 +116,7 @@ allSame (row ∷ rows) = same (row .given) (row .paper) && allSame rows
 
 -- THE CLAIM
 pub starred-examples : allSame table ≡ true
-unfolding layoutOk widthOk formatOf writeOf stateOk stagingOk emptySection levelsAbove levelsOf hashBlocksOf buildOf
+unfolding layoutOk widthOk formatOf writeOf writeKeyedOf stateOk stagingOk emptySection levelsAbove levelsOf hashBlocksOf buildOf
 starred-examples = refl
 
 -- ---- the refusals, R71
@@ -135,6 +147,9 @@ abbrev refusals : List Told
 refusals =
     -- digest. 1: its limit is passed
     record { given = toldPlain (digest-answers.answerOf digest.TooLong); paper = pos 1 ∷ [] } ∷
+    -- HMAC. 1 and 2: the digest's limit, the length of a key (R106)
+    record { given = toldPlain (hmac-answers.answerOf hmac.TooLong); paper = pos 1 ∷ [] } ∷
+    record { given = toldPlain (hmac-answers.answerOf hmac.KeyLength); paper = pos 2 ∷ [] } ∷
     -- volume, the table's rows in order.
     -- 1: the length of a loan, or the state
     record { given = toldPlain (volumeAnswer volume.Malformed); paper = pos 1 ∷ [] } ∷

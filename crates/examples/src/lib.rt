@@ -7,12 +7,12 @@ ghost use Rattle.examples.specs.Examples.{rowCount, refusalCount};
 pub fn rows() -> usize
     ensures { λ r. ⌜ r ≡ rowCount ⌝ }
 {
-    10
+    11
 }
 
 // The rows of the refusals.
 pub fn refusals() -> usize
     ensures { λ r. ⌜ r ≡ refusalCount ⌝ }
 {
-    19
+    21
 }

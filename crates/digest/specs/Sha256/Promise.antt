@@ -87,13 +87,6 @@ close-whole m =
 pub close-behind : (p m : List ℕ) → closeOf (absorbOf (absorbOf freshOf p) m) ≡ sha256 (p ++ m)
 close-behind p m = ap closeOf (absorb-both freshOf p m refl) ∙ close-whole (p ++ m)
 
--- closing any state gives a digest's length
-pub length-close : (s : State) → length (s .words) ≡ 8 → length (closeOf s) ≡ digestSize
-unfolding closeOf absorbOf
-length-close s words =
-    let whole : length (absorbOf s (paddingOf (s .count)) .words) ≡ 8 = length-hash _ (s .words) _ words in
-    rw (length-bytesOf, whole)
-
 -- whatever pieces a message comes in, closing gives its digest
 pub closing : (ps : List (List ℕ)) → length (flatten ps) ≤ limit → finishOf (addAll freshOf ps) ≡ record { answer = taken tt; digest = sha256 (flatten ps) }
 unfolding finishOf
