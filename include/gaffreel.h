@@ -48,12 +48,12 @@
  *     gaffreel_volume_next_store    1,728
  *     gaffreel_volume_advance       3,712
  *     gaffreel_volume_read          2,752
- *     gaffreel_volume_verify        3,200
+ *     gaffreel_volume_verify        2,688
  *     gaffreel_volume_format_keyed  3,712
  *     gaffreel_volume_open_keyed    3,968
  *     gaffreel_volume_write_keyed   2,880
  *     gaffreel_volume_read_keyed    2,816
- *     gaffreel_volume_verify_keyed  3,200
+ *     gaffreel_volume_verify_keyed  2,752
  *     gaffreel_tree_length             64
  *     gaffreel_tree_build           2,496
  *     gaffreel_tree_verify          2,176
