@@ -55,7 +55,7 @@
  *     gaffreel_volume_read_keyed    2,816
  *     gaffreel_volume_verify_keyed  2,752
  *     gaffreel_tree_length             64
- *     gaffreel_tree_build           2,496
+ *     gaffreel_tree_build           2,560
  *     gaffreel_tree_verify          2,176
  *
  * An interrupt taken on the same stack comes on top, and must leave the 128 bytes below the stack pointer as they are: the
@@ -530,8 +530,9 @@ uint32_t gaffreel_volume_verify_keyed(const uint8_t *state, size_t state_length,
  *
  * Level 0 holds the digests of the data blocks, each further level those of the blocks of the level below, up to one block,
  * the root block; zeros follow the last digest of a level. A tree has its levels one after the other, the root block
- * first. A digest is the SHA-256 of the salt and the block behind it; the root digest is that of the root block. From two
- * blocks on, tree and root digest are those of `veritysetup format --no-superblock`.
+ * first. A digest is the SHA-256 of the salt and the block behind it; the root digest is that of the root block. One data
+ * block has no hash block above it: its tree is empty, and the root digest is its own. Tree and root digest are those of
+ * `veritysetup format --no-superblock`.
  */
 
 /* The length of a data block and of a hash block, in bytes. */
@@ -550,12 +551,14 @@ uint32_t gaffreel_volume_verify_keyed(const uint8_t *state, size_t state_length,
 #define GAFFREEL_TREE_LEVEL_SIZE 4
 
 /*
- * The length in bytes of the tree over `count` data blocks; 0 where count is 0 or more than GAFFREEL_TREE_MOST_BLOCKS.
+ * The length in bytes of the tree over `count` data blocks; 0 where count is 1, whose tree is empty. It is 0 too where there is no
+ * tree, count being 0 or more than GAFFREEL_TREE_MOST_BLOCKS: the count tells these apart, and the calls below refuse them.
  */
 size_t gaffreel_tree_length(size_t count);
 
 /*
- * Writes the tree over the `count` data blocks of an image to `tree`, and the root digest to `root`.
+ * Writes the tree over the `count` data blocks of an image to `tree`, and the root digest to `root`. Where count is 1 nothing is
+ * written to `tree`, which has length 0 and may be NULL.
  *
  * Refused, in this order, with
  *   - GAFFREEL_LENGTH_OR_LIMIT where root_length is not GAFFREEL_TREE_DIGEST_SIZE;
@@ -577,7 +580,8 @@ uint32_t gaffreel_tree_build(size_t count, const uint8_t *salt, size_t salt_leng
  *     GAFFREEL_TREE_LONGEST_SALT, or index is not below count;
  *   - GAFFREEL_LENGTH_OR_LIMIT where tree_length is not gaffreel_tree_length(count);
  *   - GAFFREEL_MISMATCH where a digest differs from what stands above it. `level` then receives the highest level where one
- *     does, as a little-endian int32_t in two's complement: -1 for the data block, else the level of the hash block.
+ *     does, as a little-endian int32_t in two's complement: -1 for the data block, else the level of the hash block. Where
+ *     count is 1 the digest of the data block is held against the root digest, and the level is -1.
  * With every other answer `level` is as it was.
  */
 uint32_t gaffreel_tree_verify(const uint8_t *block, size_t block_length, size_t index, const uint8_t *tree,

@@ -1,4 +1,4 @@
-/* The hash tree's calls of the C interface: a tree that veritysetup made, damage, and each refusal. Also compiled as C++. */
+/* The hash tree's calls of the C interface: trees that veritysetup made, damage, and each refusal. Also compiled as C++. */
 #undef NDEBUG
 
 #include "buffers.h"
@@ -27,7 +27,8 @@ static uint8_t *block(size_t index) {
 
 static void test_length(void) {
     assert(gaffreel_tree_length(0) == 0);
-    assert(gaffreel_tree_length(1) == BLOCK);
+    assert(gaffreel_tree_length(1) == 0);
+    assert(gaffreel_tree_length(2) == BLOCK);
     assert(gaffreel_tree_length(128) == BLOCK);
     assert(gaffreel_tree_length(129) == 3 * BLOCK);
     assert(gaffreel_tree_length(GAFFREEL_TREE_MOST_BLOCKS) == 129 * BLOCK);
@@ -47,6 +48,9 @@ static void test_build(void) {
         salt[i] = (uint8_t)(31 * i + 5);
     }
     memset(tree, MARK, TREE);
+    assert(gaffreel_tree_build(1, salt, SALT, image, BLOCK, tree, 0, root, DIGEST) == GAFFREEL_DONE);
+    assert_digest(root, "875ad411a659a6327632f3de5ea6d1fcd7e928544539de22170262ffa2db9072");
+    assert_untouched(tree, TREE);
     assert(gaffreel_tree_build(COUNT, salt, SALT, image, IMAGE, tree, TREE, root, DIGEST) == GAFFREEL_DONE);
     assert_digest(root, "753c7a150da9ee314b2347920a5866ff5d26cb3955b874786c9418b282fd6f04");
     assert(gaffreel_sha256(tree, TREE, digest, DIGEST) == GAFFREEL_DONE);
@@ -158,6 +162,8 @@ static void test_build_refusals(void) {
     build_refused(length, COUNT, SALT, IMAGE - 1, TREE, DIGEST);
     build_refused(length, COUNT, SALT, IMAGE, TREE - 1, DIGEST);
     build_refused(length, COUNT, SALT, IMAGE, TREE + 1, DIGEST);
+    build_refused(length, 1, SALT, BLOCK, 1, DIGEST);
+    build_refused(length, 1, SALT, BLOCK, BLOCK, DIGEST);
 }
 
 /* A block that is refused with this number leaves the level as it was. */
@@ -184,14 +190,27 @@ static void test_verify_refusals(void) {
     verify_refused(range, BLOCK, 0, 0, COUNT, 33, DIGEST, LEVEL);
     verify_refused(range, BLOCK, COUNT, 0, COUNT, SALT, DIGEST, LEVEL);
     verify_refused(length, BLOCK, 0, TREE - 1, COUNT, SALT, DIGEST, LEVEL);
+    verify_refused(range, BLOCK, 1, BLOCK, 1, SALT, DIGEST, LEVEL);
+    verify_refused(length, BLOCK, 0, 1, 1, SALT, DIGEST, LEVEL);
+    verify_refused(length, BLOCK, 0, BLOCK, 1, SALT, DIGEST, LEVEL);
 }
 
-/* NULL with length 0: an empty salt is taken, any other buffer is refused. */
+/* NULL with length 0: an empty salt and the tree of one block are taken, any other buffer is refused. */
 static void test_null(void) {
-    uint8_t small[BLOCK], digest[DIGEST], level[LEVEL];
+    static const uint8_t data_block[LEVEL] = {0xff, 0xff, 0xff, 0xff};
+    uint8_t digest[DIGEST], level[LEVEL];
 
-    assert(gaffreel_tree_build(1, NULL, 0, image, BLOCK, small, BLOCK, digest, DIGEST) == GAFFREEL_DONE);
-    assert(gaffreel_tree_verify(image, BLOCK, 0, small, BLOCK, 1, NULL, 0, digest, DIGEST, level, LEVEL) == GAFFREEL_DONE);
+    memset(level, MARK, LEVEL);
+    assert(gaffreel_tree_build(1, NULL, 0, image, BLOCK, NULL, 0, digest, DIGEST) == GAFFREEL_DONE);
+    assert_digest(digest, "d010f6d76d0eb4dce5d5b5b34014a8a157ec4380a66c24d7d455a9bf652db14a");
+    assert(gaffreel_tree_verify(image, BLOCK, 0, NULL, 0, 1, NULL, 0, digest, DIGEST, level, LEVEL) == GAFFREEL_DONE);
+    assert_untouched(level, LEVEL);
+    assert(gaffreel_tree_verify(block(1), BLOCK, 0, NULL, 0, 1, NULL, 0, digest, DIGEST, level, LEVEL)
+           == GAFFREEL_MISMATCH);
+    assert(memcmp(level, data_block, LEVEL) == 0);
+    assert(gaffreel_tree_build(2, NULL, 0, image, 2 * BLOCK, NULL, 0, digest, DIGEST) == GAFFREEL_LENGTH_OR_LIMIT);
+    assert(gaffreel_tree_verify(image, BLOCK, 0, NULL, 0, 2, NULL, 0, digest, DIGEST, level, LEVEL)
+           == GAFFREEL_LENGTH_OR_LIMIT);
     assert(gaffreel_tree_build(1, NULL, 0, NULL, 0, NULL, 0, digest, DIGEST) == GAFFREEL_LENGTH_OR_LIMIT);
     assert(gaffreel_tree_build(1, NULL, 0, NULL, 0, NULL, 0, NULL, 0) == GAFFREEL_LENGTH_OR_LIMIT);
     assert(gaffreel_tree_verify(NULL, 0, 0, NULL, 0, 1, NULL, 0, NULL, 0, NULL, 0) == GAFFREEL_LENGTH_OR_LIMIT);

@@ -1,6 +1,6 @@
 -- The hash tree's calls over buffers. R84, R86, R87.
 --
--- lengthCall n              : what gaffreel_tree_length answers for the count n, in bytes: the tree's length; 0 where the count is out of range
+-- lengthCall n              : what gaffreel_tree_length answers for the count n, in bytes: the tree's length, 0 for one data block; 0 too where the count is out of range
 -- BuildCall                 : what gaffreel_tree_build leaves: its number, and the contents of the two buffers that it is lent to write to
 -- refusedBuild k t r        : the call was refused with the number k, and the buffers hold t and r as before
 -- buildLeaves o r           : what it leaves where the tree's build has the result o; the root digest's buffer, which held r, has the root digest of a taken one

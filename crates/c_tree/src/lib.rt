@@ -17,7 +17,7 @@ ghost use Rattle.c_tree.specs.HashTree.{levelBufferOf, lengthCall, build
 // The level of the data block, −1, in 4 bytes.
 const DATA_LEVEL: u64 = 4294967295;
 
-// The length in bytes of the tree over so many data blocks; 0 where there cannot be so many.
+// The length in bytes of the tree over so many data blocks, 0 for one; 0 too where there cannot be so many.
 pub fn tree_length(count: usize) -> usize
     ensures { λ r. ⌜ r ≡ lengthCall count ⌝ }
 {

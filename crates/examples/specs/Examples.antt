@@ -96,11 +96,11 @@ table =
     record { given = needed (bench 20) ∷ dataAt (bench 20) 17 ∷ tagByte (bench 20) 17 ∷ []; paper = 132 ∷ 129 ∷ 61472 ∷ [] } ∷
     -- S 3: the sections of the ids 1, 3 and 4, R31
     record { given = sectionFor (journalled 3) 1 ∷ sectionFor (journalled 3) 3 ∷ sectionFor (journalled 3) 4 ∷ []; paper = 0 ∷ 2 ∷ 0 ∷ [] } ∷
-    -- the hash blocks above 128, 129 and 16,384 data blocks (R80), and how 0 and 16,385 are refused (R83)
+    -- the hash blocks above 1 data block (R110), 128, 129 and 16,384 (R80), and how 0 and 16,385 are refused (R83)
     record {
       given =
-          hashBlocks 128 ∷ hashBlocks 129 ∷ hashBlocks 16384 ∷ numberIn (buildOf 0 [] [] [] .answer) ∷ numberIn (buildOf 16385 [] [] [] .answer) ∷ [];
-      paper = 1 ∷ 3 ∷ 129 ∷ 2 ∷ 2 ∷ [];
+          hashBlocks 1 ∷ hashBlocks 128 ∷ hashBlocks 129 ∷ hashBlocks 16384 ∷ numberIn (buildOf 0 [] [] [] .answer) ∷ numberIn (buildOf 16385 [] [] [] .answer) ∷ [];
+      paper = 0 ∷ 1 ∷ 3 ∷ 129 ∷ 2 ∷ 2 ∷ [];
     } ∷
     -- 129 data blocks: the byte of the tree at which the digest of block 128 stands, R81
     record { given = digestAt (levelsOf 129 - 1) 129 128 ∷ []; paper = 8192 ∷ [] } ∷

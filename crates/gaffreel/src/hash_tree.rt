@@ -2,7 +2,7 @@
 ghost use mathlib.Core.Path.{_≡_};
 ghost use Rattle.c_tree.specs.HashTree.{lengthCall, buildCall, verifyCall};
 
-// The length in bytes of the tree over so many data blocks; 0 where there cannot be so many.
+// The length in bytes of the tree over so many data blocks, 0 for one; 0 too where there cannot be so many.
 #[no_mangle]
 pub extern "C" fn gaffreel_tree_length(count: usize) -> usize
     ensures { λ r. ⌜ r ≡ lengthCall count ⌝ }

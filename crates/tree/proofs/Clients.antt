@@ -1,22 +1,26 @@
 -- Uses of the top statements, each at an instance that only the whole statement gives: so that a statement which is made weaker, and is then still
 -- proved, is refused here.
-use Prim.Native.Nat.{ℕ, _+_, _*_, _≤_, _<_}
-use mathlib.Core.List.{List, []}
-use mathlib.Core.Path.{_≡_}
+use Prim.Native.Nat.{ℕ, suc, _+_, _*_, _≤_, _<_}
+use mathlib.Core.Bool.{true, false}
+use mathlib.Core.List.{List, [], _∷_, _++_}
+use mathlib.Core.Path.{_≡_, _∙_}
 use native.Mathlib.Omega.{arith}
+use lib.IntN.{negsuc}
 use lib.ListN.{length}
-use Rattle.octets.specs.Answer.{taken}
+use Rattle.octets.specs.Answer.{taken, refuse}
+use Rattle.octets.specs.Parts.{same}
+use Rattle.digest.specs.Sha256.{sha256}
 use Rattle.tree.specs.declared.Answer as code
 use Rattle.tree.specs.declared.Answer.the-variants.{LevelDiffers}
 use Rattle.tree.specs.Answer.{answerOf, mismatch}
-use Rattle.tree_path.specs.Places.{levelsOf, placesOf, treeLength}
+use Rattle.tree_path.specs.Places.{parentsOf, levelsAbove, levelsOf, placesOf, treeLength}
 use Rattle.tree_path.specs.Tree.{blockOf}
 use Rattle.tree_path.specs.Path.{computedOf, standingOf}
-use Rattle.tree.specs.Build.{buildOf}
+use Rattle.tree.specs.Build.{notBuilt, buildOf}
 use Rattle.tree.specs.Verify.{verifyOf}
 use Rattle.tree.specs.Acceptance.{Fits, Acceptable}
 use Rattle.tree.specs.Theorems.{DiffersAt}
-use Rattle.tree.proofs.Theorems.{answers-differ, accepts-exactly, names-highest, built-is-accepted}
+use Rattle.tree.proofs.Theorems.{answers-differ, accepts-exactly, names-highest, built-is-accepted, one-block-built, one-block-verified, from-two-blocks, path-digests}
 
 -- ---- what is built is accepted: the last block of the largest image under the longest salt, and the only block of the smallest under none
 
@@ -51,3 +55,36 @@ module _ (b : List ℕ) (i : ℕ) (t : List ℕ) (n : ℕ) (s r : List ℕ) wher
 
 levels-apart : (l m : ℕ) → answerOf (LevelDiffers l) ≡ answerOf (LevelDiffers m) → _≡_ {A = code.Answer} (LevelDiffers l) (LevelDiffers m)
 levels-apart l m = answers-differ (LevelDiffers l) (LevelDiffers m)
+
+-- ---- one data block, under the longest salt: what is built, a tree loan that is not empty, and a block that is verified
+
+module _ (s d : List ℕ) (ls : length s ≡ 32) (ld : length d ≡ 4096) where
+  only-built : buildOf 1 s d [] ≡ record { answer = taken tt; root = sha256 (s ++ d); tree = [] }
+  only-built = one-block-built s d [] ∙ rw (ls, ld)
+
+  only-refused : (t : List ℕ) → length t ≡ 4096 → buildOf 1 s d t ≡ notBuilt 1 t
+  only-refused t lt = one-block-built s d t ∙ rw (ls, ld, lt)
+
+  only-verified : (r : List ℕ) → length r ≡ 32 → same (sha256 (s ++ d)) r ≡ true → verifyOf d 0 [] 1 s r ≡ taken tt
+  only-verified r lr e = one-block-verified d 0 [] s r ∙ rw (ls, ld, lr, e)
+
+  only-differs : (r : List ℕ) → length r ≡ 32 → same (sha256 (s ++ d)) r ≡ false → verifyOf d 0 [] 1 s r ≡ refuse 12 (negsuc 0 ∷ [])
+  only-differs r lr e = one-block-verified d 0 [] s r ∙ rw (ls, ld, lr, e)
+
+-- ---- from two data blocks on, and the path at each count where its length changes
+
+least-levels : levelsOf 2 ≡ suc (levelsAbove 2 (parentsOf 2))
+least-levels = from-two-blocks 2 (omega arith)
+
+module _ (b t s : List ℕ) where
+  abbrev path-of : ℕ → ℕ → List (List ℕ)
+  path-of n i = computedOf s t b (placesOf (levelsOf n) n i)
+
+  one-digest : length (path-of 1 0) ≡ 1
+  one-digest = path-digests b 0 t 1 s (omega arith) (omega arith)
+
+  two-digests : (length (path-of 2 0) ≡ 2) × (length (path-of 128 127) ≡ 2)
+  two-digests = (path-digests b 0 t 2 s (omega arith) (omega arith), path-digests b 127 t 128 s (omega arith) (omega arith))
+
+  three-digests : (length (path-of 129 0) ≡ 3) × (length (path-of 16384 16383) ≡ 3)
+  three-digests = (path-digests b 0 t 129 s (omega arith) (omega arith), path-digests b 16383 t 16384 s (omega arith) (omega arith))

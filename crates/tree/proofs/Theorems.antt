@@ -1,29 +1,29 @@
 -- The theorems of specs/Theorems.
-use Prim.Native.Nat.{ℕ, zero, suc, _*_, _<_}
+use Prim.Native.Nat.{ℕ, zero, suc, _+_, _*_, _<_}
 use native.Mathlib.Omega.{arith}
 use mathlib.Core.List.{List, [], _∷_, _++_, append-nil}
-use mathlib.Core.Logic.{_≢_}
+use mathlib.Core.Logic.{_≢_, ⊎-elim}
 use mathlib.Core.Path.{_≡_, refl, sym, ap, _∙_, subst}
-use lib.Dec.{eqb}
+use lib.Dec.{eqb, leb}
 use lib.IntN.{ℤ, pos, negsuc}
 use lib.ListN.{length}
-use borrow.Author.Tests.{eqb-true, eqb-false, ltb-false, leb-false, not-false}
+use borrow.Author.Tests.{ne-eqb, lt-leb, le-leb, eqb-true, eqb-false, ltb-false, leb-false, not-false}
 use Rattle.octets.specs.Answer.{Answer, taken, refused, refuse, numberIn}
-use Rattle.octets.specs.Choice.{pick}
+use Rattle.octets.specs.Choice.{pick, firstMet}
 use Rattle.octets.proofs.Choice.{Unmet, unmet}
 use Rattle.octets.proofs.Parts.{length-part}
 use Rattle.tree.specs.declared.Answer as code
 use Rattle.tree.specs.declared.Answer.the-variants.{Taken, WrongLength, OutOfRange, DataDiffers, LevelDiffers}
 use Rattle.digest.specs.Sha256.{digestSize}
-use Rattle.tree_path.specs.Places.{blockSize, mostBlocks, longestSalt, levelsOf, placesOf, treeLength}
+use Rattle.tree_path.specs.Places.{blockSize, digestsPerBlock, mostBlocks, longestSalt, levelsAbove, levelsOf, hashBlocksOf, placesOf, treeLength}
 use Rattle.tree_path.specs.Tree.{blockOf, treeOf, rootOf}
-use Rattle.tree_path.specs.Path.{computedOf, standingOf, Verifies}
+use Rattle.tree_path.specs.Path.{risersOf, computedOf, standingOf, Verifies}
 use Rattle.tree.specs.Answer.{levelAt, mismatch, answerOf}
 use Rattle.tree.specs.Build.{BuildOutcome, builtOf, buildOf}
 use Rattle.tree.specs.Verify.{loanRows, pathRows, comparedOf, verifyOf}
 use Rattle.tree.specs.Acceptance.{Fits, Acceptable}
-use Rattle.tree.specs.Theorems.{AnswersDiffer, AcceptsExactly, BuiltIsAccepted, DiffersAt, NamesHighest}
-use Rattle.tree_path.proofs.PlaceLaws.{levels-top}
+use Rattle.tree.specs.Theorems.{AnswersDiffer, AcceptsExactly, BuiltIsAccepted, DiffersAt, NamesHighest, OneBlockBuilt, OneBlockVerified, FromTwoBlocks, PathDigests}
+use Rattle.tree_path.proofs.PlaceLaws.{below-or, levels-top, levels-several, levels-one, levels-two, length-places}
 use Rattle.tree_path.proofs.TreeLaws.{length-tree, length-root}
 use Rattle.tree_path.proofs.PathLaws.{length-computed, length-standing}
 use Rattle.tree.proofs.Comparison.{Compared, agree, differ, compared, mismatch-refused, path-refuses, agree-taken, differ-named}
@@ -177,3 +177,31 @@ built-is-accepted n s d t some count salt image size = (ap (λ (o : BuildOutcome
     each i l =
         ap (λ (o : BuildOutcome). verifyOf (blockOf d i) i (o .tree) n s (o .root)) (sym built)
         ∙ accepts-exactly (blockOf d i) i (treeOf (levelsOf n) s n d) n s (rootOf (levelsOf n) s n d) .1 (record { fits = fits i l; verifies = verifies i l })
+
+-- ---- one data block, and more
+
+pub one-block-built : OneBlockBuilt
+unfolding buildOf levelsOf levelsAbove hashBlocksOf treeOf rootOf
+one-block-built s d t = refl
+
+pub one-block-verified : OneBlockVerified
+unfolding verifyOf pathRows levelsOf levelsAbove hashBlocksOf placesOf risersOf standingOf
+one-block-verified b i t s r = refl
+
+pub from-two-blocks : FromTwoBlocks
+from-two-blocks = levels-several
+
+pub path-digests : PathDigests
+unfolding levelsOf levelsAbove
+path-digests b i t n s some count =
+    length-computed s t b (placesOf (levelsOf n) n i)
+    ∙ ap (λ (k : ℕ). k + 1) (length-places (levelsOf n) n i)
+    ∙ ⊎-elim several (λ l. let one : n ≡ 1 = omega arith in rw one) (below-or 1 n)
+  where
+    several : 1 < n → levelsOf n + 1 ≡ firstMet ((eqb n 1, 1) ∷ (leb n digestsPerBlock, 2) ∷ []) 3
+    several p =
+        rw (ne-eqb n 1 (omega arith))
+        (⊎-elim
+        (λ m. rw (lt-leb n digestsPerBlock m, levels-two n m count))
+        (λ l. rw (le-leb n digestsPerBlock l, levels-one n p l))
+        (below-or digestsPerBlock n))

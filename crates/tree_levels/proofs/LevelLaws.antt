@@ -12,7 +12,7 @@ use Rattle.octets.specs.Parts.{part, patch}
 use Rattle.octets.proofs.Parts.{part-all, part-part, part-patch-same, part-patch-after, length-patch, patch-join}
 use Rattle.digest.specs.Sha256.Promise.{length-sha256}
 use Rattle.digest.specs.Sha256.{digestSize}
-use Rattle.tree_path.specs.Places.{blockSize, parentsOf, hashBlocksOf, firstBlockOf}
+use Rattle.tree_path.specs.Places.{blockSize, parentsOf, levelsOf, hashBlocksOf, firstBlockOf, treeLength}
 use Rattle.tree_path.specs.Tree.{blockOf, blockDigest, digestsOf, levelOf, treeOf, rootOf}
 use Rattle.tree_path.proofs.PlaceLaws.{topOf}
 use Rattle.tree_path.proofs.TreeLaws.{length-digests, length-level}
@@ -151,3 +151,15 @@ module _ (s : List ℕ) (h m first : ℕ) (t root whole : List ℕ) (up : h ≤ 
   pub root-digest : blockDigest s (take blockSize t) ≡ root
   unfolding rootOf
   root-digest = sym (rw (no-level, in-front, one-block) at (st .top))
+
+-- no level: one data block, and no root block
+module _ (n : ℕ) (s l t : List ℕ) (none : levelsOf n ≡ 0) where
+  pub bare-root : blockDigest s l ≡ rootOf (levelsOf n) s n l
+  unfolding rootOf
+  bare-root = rw none
+
+  pub bare-tree : length t ≡ treeLength n → t ≡ treeOf (levelsOf n) s n l
+  unfolding treeOf hashBlocksOf
+  bare-tree size =
+      let empty : length t ≡ 0 = rw none at size in
+      rw none (rw empty at (drop-length t))

@@ -56,12 +56,16 @@ fn hash_level(tree: &mut [u8], from: usize, first: usize, salt: &[u8], m: usize)
     pad(tree, base, m)
 }
 
-// All levels of the tree over the n data blocks of the image, and the root digest.
+// All levels of the tree over the n data blocks of the image, and the root digest. One block has no level above it, and its own digest is the root digest.
 pub fn fill(tree: &mut [u8], n: usize, salt: &[u8], image: &[u8]) -> [u8; DIGEST_SIZE]
     requires { ⌜ (0 < n) × (n ≤ mostBlocks) × (length (now salt) ≤ longestSalt) × (length (now image) ≡ n * blockSize) × (length (now tree) ≡ treeLength n) ⌝ }
     ensures { λ r. ⌜ (r ≡ rootOf (levelsOf n) (now (salt .entry)) n (now (image .entry))) × (now (tree .exit) ≡ treeOf (levelsOf n) (now (salt .entry)) n (now (image .entry))) ⌝ }
 {
-    let mut left = places::levels(n) - 1;
+    let h = places::levels(n);
+    if h == 0 {
+        return block_digest(salt, image);
+    }
+    let mut left = h - 1;
     let mut first = places::first_block(left, n);
     data_level(tree, first, salt, image, n);
     let mut m = places::parents(n);

@@ -64,7 +64,26 @@ above-top (suc f) m p l =
 
 pub levels-top : (n : ℕ) → 0 < n → topOf (levelsOf n) n ≡ 1
 unfolding topOf levelsOf
-levels-top n p = above-top n (parentsOf n) (omega arith) (omega arith)
+levels-top n p = above-top n n p (omega arith)
+
+-- only one block has no level above it
+pub levels-none : (n : ℕ) → 0 < n → levelsOf n ≡ 0 → n ≡ 1
+unfolding topOf
+levels-none n p e = rw e at (levels-top n p)
+
+-- from two blocks on there is a level of their digests, and what leads from that to one block
+pub levels-several : (n : ℕ) → 1 < n → levelsOf n ≡ suc (levelsAbove n (parentsOf n))
+unfolding levelsOf
+levels-several n p = next-above n n p (omega arith)
+
+-- and that is all up to the digests that a hash block holds; up to their square, one level more
+pub levels-one : (n : ℕ) → 1 < n → n ≤ digestsPerBlock → levelsOf n ≡ 1
+levels-one n p l = levels-several n p ∙ ap suc (none-above n (parentsOf n) (omega arith))
+
+pub levels-two : (n : ℕ) → digestsPerBlock < n → n ≤ mostBlocks → levelsOf n ≡ 2
+levels-two n p l =
+    levels-several n (omega arith)
+    ∙ ap suc (next-above n (parentsOf n) (omega arith) (omega arith) ∙ ap suc (none-above n (parentsOf (parentsOf n)) (omega arith)))
 
 -- k levels are enough for a power k of blocks
 few-above : (k f m : ℕ) → m ≤ digestsPerBlock ^ k → levelsAbove f m ≤ k
@@ -77,19 +96,15 @@ few-above (suc k) (suc f) m l =
     (λ h. rw (none-above (suc f) m h) (omega arith))
     (below-or 1 m)
 
-pub levels-some : (n : ℕ) → 0 < levelsOf n
-unfolding levelsOf
-levels-some n = omega arith
-
 pub levels-few : (n : ℕ) → n ≤ mostBlocks → levelsOf n ≤ mostLevels
 unfolding levelsOf
-levels-few n l = omega (arith, few-above (mostLevels - 1) n (parentsOf n) (omega arith))
+levels-few n l = few-above mostLevels n n l
 
 -- ---- the loop that counts levels: h of them are passed, and m blocks are reached
 
-pub levels-start : (n m : ℕ) → m ≡ parentsOf n → levelsOf n ≡ 1 + levelsAbove n m
+pub levels-start : (n : ℕ) → levelsOf n ≡ 0 + levelsAbove n n
 unfolding levelsOf
-levels-start n m e = rw e (omega arith)
+levels-start n = omega arith
 
 pub levels-turn : (n m k h : ℕ) → 1 < m → m ≤ n → k ≡ parentsOf m → levelsOf n ≡ h + levelsAbove n m → levelsOf n ≡ (h + 1) + levelsAbove n k
 levels-turn n m k h l b e i = rw e (omega (arith, next-above n m l b))

@@ -31,10 +31,10 @@ pub fn parents(m: usize) -> usize
 // Levels of the tree over n data blocks.
 pub fn levels(n: usize) -> usize
     requires { ⌜ n ≤ mostBlocks ⌝ }
-    ensures { λ r. ⌜ (r ≡ levelsOf n) × (0 < r) × (r ≤ mostLevels) ⌝ }
+    ensures { λ r. ⌜ (r ≡ levelsOf n) × (r ≤ mostLevels) ⌝ }
 {
-    let mut m = parents(n);
-    let mut h: usize = 1;
+    let mut m = n;
+    let mut h: usize = 0;
     while 1 < m {
         m = parents(m);
         h += 1;
@@ -82,7 +82,7 @@ pub fn tree_length(n: usize) -> usize
     hash_blocks(levels(n), n) * BLOCK_SIZE
 }
 
-// The same for any count; 0 where there cannot be so many.
+// The same for any count; 0 too where there cannot be so many.
 pub fn length(n: usize) -> usize
     ensures { λ r. ⌜ r ≡ lengthOf n ⌝ }
 {

@@ -1,4 +1,5 @@
-// The answers to damage: of a tree over 129 blocks, which has two levels, with a salt of 8 bytes, and of what building is lent.
+// The answers to damage: of a tree over 129 blocks, which has two levels, and of one over one block, which is empty, with a salt of 8 bytes; and of what
+// building is lent.
 //
 // Block 0 of the tree is level 1, its zeros from byte 64 on. Block 1 is level 0 for the data blocks 0 to 127; block 2 is level 0 for block 128, its zeros
 // from byte 8,224 on. The data block is block 5 where nothing else is said; its digest stands at byte 4,256.
@@ -20,6 +21,7 @@ pub(crate) fn answers(image: &[u8], salts: &[u8]) {
     let root = made.root;
     verifying(image, salts, &mut tree, &root);
     building(image, salts);
+    one_block(span(image, 0, BLOCK_SIZE), salts);
 }
 
 fn verifying(image: &[u8], salts: &[u8], tree: &mut [u8], root: &[u8]) {
@@ -252,4 +254,105 @@ fn building(image: &[u8], salts: &[u8]) {
     built(b"build, long image", COUNT, salt, span(image, 0, 528385));
     built(b"build, long tree", 128, salt, span(image, 0, 524288));
     built(b"build, short tree", 257, salt, span(image, 0, 1052672));
+}
+
+// One data block: its own digest is the root digest, and no hash block stands above it.
+fn one_block(only: &[u8], salts: &[u8]) {
+    let salt = span(salts, 0, 8);
+    let mut tree = [0u8; DIGEST_SIZE];
+    let root = only_root(only, salt, &mut tree);
+    one_verified(only, salts, &root);
+    one_bit(only, salt, &root);
+    one_built(only, salt);
+}
+
+// Its salt, its index and the length of its tree.
+fn one_verified(only: &[u8], salts: &[u8], root: &[u8]) {
+    let salt = span(salts, 0, 8);
+    let none = span(only, 0, 0);
+    single(b"one block", only, 0, none, salt, root);
+    single(
+        b"one block, other salt",
+        only,
+        0,
+        none,
+        span(salts, 1, 9),
+        root,
+    );
+    single(b"one block, index 1", only, 1, none, salt, root);
+    single(
+        b"one block, index 1, tree of a hash block",
+        only,
+        1,
+        only,
+        salt,
+        root,
+    );
+    single(
+        b"one block, tree of a byte",
+        only,
+        0,
+        span(only, 0, 1),
+        salt,
+        root,
+    );
+    single(
+        b"one block, tree of a hash block",
+        only,
+        0,
+        only,
+        salt,
+        root,
+    );
+}
+
+// The root digest that is built with none of the tree's bytes lent.
+fn only_root(only: &[u8], salt: &[u8], tree: &mut [u8]) -> [u8; DIGEST_SIZE] {
+    let made = tree::build(1, salt, only, &mut tree[..0]);
+    made.root
+}
+
+// The answer for the only data block.
+fn single(name: &[u8], block: &[u8], index: usize, tree: &[u8], salt: &[u8], root: &[u8]) {
+    counted(name, block, index, tree, 1, salt, root);
+}
+
+// A bit of the only data block and of its root digest.
+fn one_bit(only: &[u8], salt: &[u8], root: &[u8]) {
+    let none = span(only, 0, 0);
+    let mut damaged = [0u8; BLOCK_SIZE];
+    copy(&mut damaged, only);
+    flip(&mut damaged, 4095);
+    single(b"one block, bit of it", &damaged, 0, none, salt, root);
+    let mut other = [0u8; DIGEST_SIZE];
+    copy(&mut other, root);
+    flip(&mut other, 0);
+    single(
+        b"one block, bit of the root digest",
+        only,
+        0,
+        none,
+        salt,
+        &other,
+    );
+}
+
+// Building over one data block with a tree loan that is not empty.
+fn one_built(only: &[u8], salt: &[u8]) {
+    let mut byte = [0u8; 1];
+    one_answer(b"build, one block, tree of a byte", only, salt, &mut byte);
+    let mut whole = [0u8; BLOCK_SIZE];
+    one_answer(
+        b"build, one block, tree of a hash block",
+        only,
+        salt,
+        &mut whole,
+    );
+}
+
+fn one_answer(name: &[u8], only: &[u8], salt: &[u8], tree: &mut [u8]) {
+    io::write_all(STDOUT_FILENO, name);
+    let made = tree::build(1, salt, only, tree);
+    let answer = made.answer;
+    report::answer(answer);
 }

@@ -64,6 +64,7 @@ pub(crate) fn span(s: &[u8], from: usize, to: usize) -> &[u8] {
 
 fn trees(image: &[u8], salt: &[u8]) {
     let mut tree = [0u8; TREE];
+    salts(image, salt, 1, &mut tree, 0);
     salts(image, salt, 2, &mut tree, 1);
     salts(image, salt, 127, &mut tree, 1);
     salts(image, salt, 128, &mut tree, 1);

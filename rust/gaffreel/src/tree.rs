@@ -13,12 +13,11 @@ pub const MOST_BLOCKS: usize = 16_384;
 /// The longest salt, in bytes.
 pub const LONGEST_SALT: usize = 32;
 
-/// The length in bytes of the tree over `count` data blocks: 1 to [`MOST_BLOCKS`].
+/// The length in bytes of the tree over `count` data blocks: 1 to [`MOST_BLOCKS`]. Over one block the tree is empty.
 pub fn length(count: usize) -> Option<usize> {
-    match ffi::tree_length(count) {
-        0 => None,
-        length => Some(length),
-    }
+    (1..=MOST_BLOCKS)
+        .contains(&count)
+        .then(|| ffi::tree_length(count))
 }
 
 /// Builds the tree over the `count` data blocks of an image into `tree`, which is [`length`] of the count long, and

@@ -149,10 +149,14 @@ fn built(random: &mut Random, count: usize) -> (Vec<u8>, Case) {
 #[test]
 fn each_length() {
     for count in 0..=MOST_BLOCKS + 300 {
-        assert_eq!(tree::length(count), reference::length(count));
+        let expected = reference::length(count);
+        assert_eq!(tree::length(count), expected);
+        assert_eq!(ffi::tree_length(count), expected.unwrap_or(0));
     }
+    assert_eq!(tree::length(1), Some(0));
     for count in [1 << 32, (1 << 32) + 1, usize::MAX] {
         assert_eq!(tree::length(count), None);
+        assert_eq!(ffi::tree_length(count), 0);
     }
 }
 
@@ -343,7 +347,8 @@ fn refused_builds() {
         let mut count = good_count;
         let mut salt = any_salt(random);
         let mut image_length = count * BLOCK_LENGTH;
-        let mut tree_length = BLOCK_LENGTH;
+        let good_length = tree::length(good_count).expect("in range");
+        let mut tree_length = good_length;
         let mut root_length = DIGEST_LENGTH;
         for _ in 0..random.length(1..=3) {
             match random.number() % 6 {
@@ -351,7 +356,7 @@ fn refused_builds() {
                 1 => count = wrong_number(random, MOST_BLOCKS + 1),
                 2 => salt.resize(LONGEST_SALT + 1, 0),
                 3 => image_length = wrong_length(random, good_count * BLOCK_LENGTH),
-                4 => tree_length = wrong_length(random, BLOCK_LENGTH),
+                4 => tree_length = wrong_length(random, good_length),
                 _ => root_length = wrong_length(random, DIGEST_LENGTH),
             }
         }

@@ -1,8 +1,9 @@
-//! The hash tree of dm-verity, format 1, over a read-only image: document 01, "Hash tree", and source document 003.
+//! The hash tree of dm-verity, format 1, over a read-only image: document 01, "Hash tree", document 02, order 2, and source document 003.
 //!
 //! Data and hash blocks have 4,096 bytes. Level 0 holds the digests of the data blocks, each further level those of the
 //! level below, up to one block; a level's last block ends with zeros. The tree has its levels root first. A digest is
-//! that of the salt and the block behind it, and the root digest that of the salt and the root block.
+//! that of the salt and the block behind it, and the root digest that of the salt and the root block. Over one data block there is
+//! no level: the tree is empty, and the root digest is that of the salt and the data block.
 
 use crate::sha256::{State, DIGEST_LENGTH};
 
@@ -60,6 +61,9 @@ pub fn build(
     }
     if image.len() != count * BLOCK_LENGTH || tree.len() != length {
         return Err(Refusal::WrongLength);
+    }
+    if count == 1 {
+        return Ok(digest(salt, image));
     }
     let mut end = length;
     let mut top = level_over(salt, image);
@@ -119,8 +123,8 @@ pub fn verify(
 
 /// The number of hash blocks in each level, level 0 first.
 fn level_sizes(count: usize) -> Vec<usize> {
-    let mut size = count.div_ceil(DIGESTS_PER_BLOCK);
-    let mut sizes = vec![size];
+    let mut size = count;
+    let mut sizes = Vec::new();
     while size > 1 {
         size = size.div_ceil(DIGESTS_PER_BLOCK);
         sizes.push(size);
@@ -179,7 +183,13 @@ mod tests {
 
     /// Count, length of the salt, root digest, and digest of the tree's bytes, as `veritysetup format --no-superblock`
     /// makes them of the same image and salt.
-    const MADE_BY_VERITYSETUP: [(usize, usize, &str, &str); 5] = [
+    const MADE_BY_VERITYSETUP: [(usize, usize, &str, &str); 6] = [
+        (
+            1,
+            8,
+            "875ad411a659a6327632f3de5ea6d1fcd7e928544539de22170262ffa2db9072",
+            "e3b0c44298fc1c149afbf4c8996fb92427ae41e4649b934ca495991b7852b855",
+        ),
         (
             2,
             32,
@@ -227,23 +237,36 @@ mod tests {
         }
     }
 
-    /// One data block still has one hash block, which veritysetup does not make.
+    /// One data block has no hash block: only the block itself can fail, and no tree but an empty one is taken.
     #[test]
     fn one_block() {
         let image = image();
         let built = built(1, b"salt", &image);
         let block = &image[..BLOCK_LENGTH];
-        let mut expected = [0; BLOCK_LENGTH];
-        expected[..DIGEST_LENGTH].copy_from_slice(&digest(b"salt", block));
-        assert_eq!(built.tree, expected);
-        assert_eq!(built.root, digest(b"salt", &expected));
-        let answer = verify(block, 0, &built.tree, 1, b"salt", &built.root);
-        assert_eq!(answer, Ok(()));
+        assert_eq!(built.tree, []);
+        assert_eq!(built.root, digest(b"salt", block));
+        let verify =
+            |block: &[u8], tree: &[u8], root: &[u8]| verify(block, 0, tree, 1, b"salt", root);
+        assert_eq!(verify(block, &[], &built.root), Ok(()));
+        for (block, root) in [
+            (&image[BLOCK_LENGTH..2 * BLOCK_LENGTH], &built.root),
+            (block, &[0; DIGEST_LENGTH]),
+        ] {
+            assert_eq!(verify(block, &[], root), Err(Refusal::Mismatch(-1)));
+        }
+        for length in [1, BLOCK_LENGTH] {
+            let mut tree = vec![0xa5; length];
+            let answer = verify(block, &tree, &built.root);
+            assert_eq!(answer, Err(Refusal::WrongLength));
+            let answer = build(1, b"salt", block, &mut tree);
+            assert_eq!(answer, Err(Refusal::WrongLength));
+            assert_eq!(tree, vec![0xa5; length]);
+        }
     }
 
     #[test]
     fn lengths() {
-        for (count, blocks) in [(1, 1), (128, 1), (129, 3), (300, 4), (16_384, 129)] {
+        for (count, blocks) in [(1, 0), (2, 1), (128, 1), (129, 3), (300, 4), (16_384, 129)] {
             assert_eq!(length(count), Some(blocks * BLOCK_LENGTH));
         }
         for count in [0, 16_385, usize::MAX] {
@@ -320,25 +343,26 @@ mod tests {
             );
         }
         assert_eq!(
-            verify(&block, 0, &[], 1, salt, &root),
+            verify(&block, 0, &[], 2, salt, &root),
             Err(Refusal::WrongLength)
         );
         assert_eq!(
-            verify(&block, 0, &block, 1, salt, &root),
+            verify(&block, 0, &block, 2, salt, &root),
             Err(Refusal::Mismatch(0))
         );
 
+        let image = [0; 2 * BLOCK_LENGTH];
         let mut tree = [0xa5; BLOCK_LENGTH];
         for (count, salt) in [(0, salt), (16_385, salt), (1, &long[..])] {
             let answer = build(count, salt, &[], &mut []);
             assert_eq!(answer, Err(Refusal::OutOfRange));
         }
-        assert_eq!(build(1, salt, &[], &mut tree), Err(Refusal::WrongLength));
+        assert_eq!(build(2, salt, &[], &mut tree), Err(Refusal::WrongLength));
         assert_eq!(
-            build(1, salt, &block, &mut tree[1..]),
+            build(2, salt, &image, &mut tree[1..]),
             Err(Refusal::WrongLength)
         );
         assert_eq!(tree, [0xa5; BLOCK_LENGTH]);
-        assert!(build(1, salt, &block, &mut tree).is_ok());
+        assert!(build(2, salt, &image, &mut tree).is_ok());
     }
 }

@@ -19,7 +19,7 @@ pub const BUILD: Command = Command {
     help: "\
 Usage: gaffreel tree build IMAGE TREE [OPTION]...
 Builds the hash tree over IMAGE, which is 1 to 16384 blocks of 4096 bytes, in the file TREE, and
-prints the root digest.
+prints the root digest. The tree over one block is empty, and so is the file.
 
   --salt HEX  salt of up to 32 bytes, as hexadecimal digits (default none)
 ",
@@ -115,8 +115,9 @@ fn verify_blocks(
             Ok(()) => {}
             Err(Refusal::Mismatch { level }) => bad.push((index, level)),
             Err(refusal) => {
+                let blocks = if count == 1 { "block" } else { "blocks" };
                 let meaning = format!(
-                    "the tree over {count} blocks has {length} bytes: \
+                    "the tree over {count} {blocks} has {length} bytes: \
                      name the tree that was built over this image, or build it again"
                 );
                 return Err(Failure::refused_as(tree_path, refusal, meaning));

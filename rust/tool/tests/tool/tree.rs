@@ -18,6 +18,7 @@ fn as_the_reference_builds_it() {
     let folder = Folder::new();
     for (count, salt) in [
         (1, vec![]),
+        (1, vec![7; 8]),
         (2, vec![0xab; 8]),
         (129, vec![1; 32]),
         (300, vec![]),
@@ -104,14 +105,43 @@ fn what_is_refused() {
         assert!(verified.err.starts_with(&err), "{}", verified.err);
     }
     folder.put("image", &[0; 2 * BLOCK]);
-    for length in [0, BLOCK - 1, BLOCK + 1] {
+    folder.put("single", &[0; BLOCK]);
+    let two = "the tree over 2 blocks has 4096 bytes: ";
+    let one = "the tree over 1 block has 0 bytes: ";
+    for (name, length, said) in [
+        ("image", 0, two),
+        ("image", BLOCK - 1, two),
+        ("image", BLOCK + 1, two),
+        ("single", 1, one),
+        ("single", BLOCK, one),
+    ] {
         folder.put("tree", &vec![0; length]);
-        let verified = folder.run(&["tree", "verify", "image", "tree", &zero]);
+        let verified = folder.run(&["tree", "verify", name, "tree", &zero]);
         assert_eq!((verified.status, verified.text()), (2, "refused 1\n"));
-        assert!(verified
-            .err
-            .starts_with("gaffreel: tree: refused 1: the tree over 2 blocks has 4096 bytes: "));
+        let err = format!("gaffreel: tree: refused 1: {said}");
+        assert!(verified.err.starts_with(&err), "{}", verified.err);
     }
+}
+
+/// The tree over one block is an empty file, which must be there, and the block is level -1.
+#[test]
+fn one_block() {
+    let mut data = image(1, 1);
+    let folder = Folder::with("image", &data);
+    let built = folder.run(&["tree", "build", "image", "tree"]);
+    let root = hex(&reference::sha256::digest(&data).unwrap());
+    assert_eq!(built, Ended::good(&format!("{root}\n")));
+    assert!(folder.get("tree").is_empty());
+    let verify = |tree: &str| folder.run(&["tree", "verify", "image", tree, &root]);
+    assert_eq!(verify("tree"), Ended::good("bad 0\n"));
+    let missing = verify("missing");
+    assert_eq!((missing.status, missing.text()), (3, ""));
+    data[BLOCK - 1] ^= 1;
+    folder.put("image", &data);
+    assert_eq!(
+        verify("tree"),
+        Ended::with(1, "bad-block 0 level -1\nbad 1\n", "")
+    );
 }
 
 #[test]

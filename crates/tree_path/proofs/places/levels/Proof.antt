@@ -4,7 +4,7 @@ use native.Mathlib.Omega.{arith}
 use mathlib.Core.Path.{_≡_}
 use borrow.Author.Needs.{needs}
 use Rattle.tree_path.specs.Places.{levelsOf, levelsAbove}
-use Rattle.tree_path.proofs.PlaceLaws.{levels-some, levels-few, levels-start, levels-turn, levels-end}
+use Rattle.tree_path.proofs.PlaceLaws.{levels-few, levels-start, levels-turn, levels-end}
 use Rattle.tree_path.proofs.places.levels.Statement.{statement}
 use Rattle.tree_path.proofs.places.levels.Tie as tie
 
@@ -15,23 +15,23 @@ abbrev μ-loop : tie.MeasureT-loop
 μ-loop n m₀ h₀ m h = m
 
 loop-holds : tie.Need-loop-holds Inv-loop μ-loop
-loop-holds c = (omega arith, levels-start _ _ (c .parents .ensures .0))
+loop-holds c = (omega arith, levels-start (c .args .n))
 
 add-h : tie.Need-add-h Inv-loop μ-loop
 add-h c =
-    let n = c .before .before .before .before .args .n in
+    let n = c .before .before .before .args .n in
     omega (arith, levels-few n (omega arith))
 
 loop-again : tie.Need-loop-again Inv-loop μ-loop
 loop-again c =
     let turn = c .before .before .loop in
-    (omega arith, levels-turn _ (turn .m) _ (turn .h) (c .before .loop-test .taken) (turn .inv .0) (c .parents2 .ensures .0) (turn .inv .1))
+    (omega arith, levels-turn _ (turn .m) _ (turn .h) (c .before .loop-test .taken) (turn .inv .0) (c .parents .ensures .0) (turn .inv .1))
 
 returns : tie.Need-returns Inv-loop μ-loop
 returns c =
-    let n = c .before .before .before .args .n in
+    let n = c .before .before .args .n in
     let e = levels-end n (c .before .loop .m) _ (omega arith) (c .before .loop .inv .1) in
-    (e, omega (arith, levels-some n), omega (arith, levels-few n (omega arith)))
+    (e, omega (arith, levels-few n (omega arith)))
 
 pub levels-spec : {M : Type 1} → statement M
 levels-spec =
@@ -39,7 +39,6 @@ levels-spec =
     (tie.spec
     Inv-loop
     μ-loop
-    (λ c κs. search needs)
     loop-holds
     (λ c κs. search needs)
     add-h
