@@ -551,14 +551,15 @@ uint32_t gaffreel_volume_verify_keyed(const uint8_t *state, size_t state_length,
 #define GAFFREEL_TREE_LEVEL_SIZE 4
 
 /*
- * The length in bytes of the tree over `count` data blocks; 0 where count is 1, whose tree is empty. It is 0 too where there is no
- * tree, count being 0 or more than GAFFREEL_TREE_MOST_BLOCKS: the count tells these apart, and the calls below refuse them.
+ * The length in bytes of the tree over `count` data blocks; 0 where count is 1, since that tree is empty. It is 0 too where
+ * count is 0 or more than GAFFREEL_TREE_MOST_BLOCKS, for which there is no tree. So 0 alone is no sign of a wrong count: look
+ * at the count, or at the answer of the calls below, which refuse a wrong one with GAFFREEL_OUT_OF_RANGE.
  */
 size_t gaffreel_tree_length(size_t count);
 
 /*
- * Writes the tree over the `count` data blocks of an image to `tree`, and the root digest to `root`. Where count is 1 nothing is
- * written to `tree`, which has length 0 and may be NULL.
+ * Writes the tree over the `count` data blocks of an image to `tree`, and the root digest to `root`. Where count is 1, `tree`
+ * has length 0 and may be NULL.
  *
  * Refused, in this order, with
  *   - GAFFREEL_LENGTH_OR_LIMIT where root_length is not GAFFREEL_TREE_DIGEST_SIZE;

@@ -154,12 +154,12 @@ module _ (s : List ℕ) (h m first : ℕ) (t root whole : List ℕ) (up : h ≤ 
 
 -- no level: one data block, and no root block
 module _ (n : ℕ) (s l t : List ℕ) (none : levelsOf n ≡ 0) where
-  pub bare-root : blockDigest s l ≡ rootOf (levelsOf n) s n l
+  pub root-without-level : blockDigest s l ≡ rootOf (levelsOf n) s n l
   unfolding rootOf
-  bare-root = rw none
+  root-without-level = rw none
 
-  pub bare-tree : length t ≡ treeLength n → t ≡ treeOf (levelsOf n) s n l
+  pub tree-without-level : length t ≡ treeLength n → t ≡ treeOf (levelsOf n) s n l
   unfolding treeOf hashBlocksOf
-  bare-tree size =
+  tree-without-level size =
       let empty : length t ≡ 0 = rw none at size in
       rw none (rw empty at (drop-length t))

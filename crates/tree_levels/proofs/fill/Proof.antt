@@ -9,7 +9,7 @@ use borrow.Author.Needs.{needs}
 use Rattle.tree_path.specs.Places.{blockSize, mostBlocks, mostLevels, levelsOf, parentsOf, hashBlocksOf}
 use Rattle.tree_path.specs.Tree.{treeOf, rootOf}
 use Rattle.tree_path.proofs.PlaceLaws.{levels-top, levels-none, level-next}
-use Rattle.tree_levels.proofs.LevelLaws.{Reached, reached-first, reached-turn, root-fits, root-tree, root-digest, bare-root, bare-tree}
+use Rattle.tree_levels.proofs.LevelLaws.{Reached, reached-first, reached-turn, root-fits, root-tree, root-digest, root-without-level, tree-without-level}
 use Rattle.tree_levels.proofs.fill.Statement.{statement}
 use Rattle.tree_levels.proofs.fill.Tie as tie
 
@@ -31,8 +31,8 @@ returns : tie.Need-returns Inv-loop μ-loop
 returns c =
     let a = c .before .before .before .before .before .before .args in
     let none : levelsOf (a .n) ≡ 0 = sym (c .before .before .levels .ensures .0) ∙ omega arith in (
-      c .block-digest .ensures .0 ∙ bare-root (a .n) (now (a .salt)) (now (a .image)) (now (a .tree)) none,
-      bare-tree (a .n) (now (a .salt)) (now (a .image)) (now (a .tree)) none (omega (arith, c .before .before .before .before .before .before .pre)),
+      c .block-digest .ensures .0 ∙ root-without-level (a .n) (now (a .salt)) (now (a .image)) (now (a .tree)) none,
+      tree-without-level (a .n) (now (a .salt)) (now (a .image)) (now (a .tree)) none (omega (arith, c .before .before .before .before .before .before .pre)),
     )
 
 data-level-requires : tie.Need-data-level-requires Inv-loop μ-loop
