@@ -29,7 +29,16 @@ fn verifying(image: &[u8], salts: &[u8], tree: &mut [u8], root: &[u8]) {
     let five = span(image, 20480, 24576);
     let last = span(image, 524288, 528384);
     blocks(five, last, tree, salts, root);
-    digests(five, tree, salt, root);
+    digests(
+        b"bit of the data block",
+        b"bit of the root digest",
+        five,
+        5,
+        tree,
+        COUNT,
+        salt,
+        root,
+    );
     level_0(five, last, tree, salt, root);
     level_1(five, tree, salt, root);
     lengths(image, tree, salts, root);
@@ -79,16 +88,25 @@ fn blocks(five: &[u8], last: &[u8], tree: &[u8], salts: &[u8], root: &[u8]) {
     block(b"shorter salt", five, 5, tree, span(salts, 0, 7), root);
 }
 
-// A bit of the data block and of the root digest.
-fn digests(five: &[u8], tree: &[u8], salt: &[u8], root: &[u8]) {
+// A bit of the data block and of the root digest, each under its name.
+fn digests(
+    of_block: &[u8],
+    of_root: &[u8],
+    block: &[u8],
+    index: usize,
+    tree: &[u8],
+    count: usize,
+    salt: &[u8],
+    root: &[u8],
+) {
     let mut damaged = [0u8; BLOCK_SIZE];
-    copy(&mut damaged, five);
+    copy(&mut damaged, block);
     flip(&mut damaged, 100);
-    block(b"bit of the data block", &damaged, 5, tree, salt, root);
+    counted(of_block, &damaged, index, tree, count, salt, root);
     let mut other = [0u8; DIGEST_SIZE];
     copy(&mut other, root);
     flip(&mut other, 31);
-    block(b"bit of the root digest", five, 5, tree, salt, &other);
+    counted(of_root, block, index, tree, count, salt, &other);
 }
 
 fn copy(to: &mut [u8], from: &[u8]) {
@@ -235,8 +253,13 @@ fn ranges(five: &[u8], tree: &[u8], salt: &[u8], root: &[u8]) {
 // The answer to building, with a tree loan of three blocks.
 fn built(name: &[u8], count: usize, salt: &[u8], image: &[u8]) {
     let mut tree = [0u8; TREE];
+    built_in(name, count, salt, image, &mut tree);
+}
+
+// The same with this tree loan.
+fn built_in(name: &[u8], count: usize, salt: &[u8], image: &[u8], tree: &mut [u8]) {
     io::write_all(STDOUT_FILENO, name);
-    let made = tree::build(count, salt, image, &mut tree);
+    let made = tree::build(count, salt, image, tree);
     let answer = made.answer;
     report::answer(answer);
 }
@@ -262,7 +285,16 @@ fn one_block(only: &[u8], salts: &[u8]) {
     let mut tree = [0u8; DIGEST_SIZE];
     let root = only_root(only, salt, &mut tree);
     one_verified(only, salts, &root);
-    one_bit(only, salt, &root);
+    digests(
+        b"one block, bit of it",
+        b"one block, bit of the root digest",
+        only,
+        0,
+        span(only, 0, 0),
+        1,
+        salt,
+        &root,
+    );
     one_built(only, salt);
 }
 
@@ -317,42 +349,22 @@ fn single(name: &[u8], block: &[u8], index: usize, tree: &[u8], salt: &[u8], roo
     counted(name, block, index, tree, 1, salt, root);
 }
 
-// A bit of the only data block and of its root digest.
-fn one_bit(only: &[u8], salt: &[u8], root: &[u8]) {
-    let none = span(only, 0, 0);
-    let mut damaged = [0u8; BLOCK_SIZE];
-    copy(&mut damaged, only);
-    flip(&mut damaged, 4095);
-    single(b"one block, bit of it", &damaged, 0, none, salt, root);
-    let mut other = [0u8; DIGEST_SIZE];
-    copy(&mut other, root);
-    flip(&mut other, 0);
-    single(
-        b"one block, bit of the root digest",
-        only,
-        0,
-        none,
-        salt,
-        &other,
-    );
-}
-
 // Building over one data block with a tree loan that is not empty.
 fn one_built(only: &[u8], salt: &[u8]) {
     let mut byte = [0u8; 1];
-    one_answer(b"build, one block, tree of a byte", only, salt, &mut byte);
-    let mut whole = [0u8; BLOCK_SIZE];
-    one_answer(
-        b"build, one block, tree of a hash block",
-        only,
+    built_in(
+        b"build, one block, tree of a byte",
+        1,
         salt,
+        only,
+        &mut byte,
+    );
+    let mut whole = [0u8; BLOCK_SIZE];
+    built_in(
+        b"build, one block, tree of a hash block",
+        1,
+        salt,
+        only,
         &mut whole,
     );
-}
-
-fn one_answer(name: &[u8], only: &[u8], salt: &[u8], tree: &mut [u8]) {
-    io::write_all(STDOUT_FILENO, name);
-    let made = tree::build(1, salt, only, tree);
-    let answer = made.answer;
-    report::answer(answer);
 }
