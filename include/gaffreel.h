@@ -34,29 +34,29 @@
  * Stack: the most bytes that a call takes below its caller's frame, to which arguments on the stack belong; its return address
  * is included, and memcpy and memset with 8 bytes each, as glibc's take. Measured over good and hostile calls, and rounded up.
  *
- *     gaffreel_sha256               2,048
+ *     gaffreel_sha256               1,600
  *     gaffreel_sha256_new              64
- *     gaffreel_sha256_update        1,600
- *     gaffreel_sha256_finish        1,792
- *     gaffreel_hmac_sha256          2,496
- *     gaffreel_volume_format        3,584
+ *     gaffreel_sha256_update        1,152
+ *     gaffreel_sha256_finish        1,344
+ *     gaffreel_hmac_sha256          2,048
+ *     gaffreel_volume_format        3,136
  *     gaffreel_volume_query           256
- *     gaffreel_volume_open          3,840
- *     gaffreel_volume_write         2,816
+ *     gaffreel_volume_open          3,392
+ *     gaffreel_volume_write         2,368
  *     gaffreel_volume_flush           384
  *     gaffreel_volume_step          2,304
  *     gaffreel_volume_next_store    1,728
  *     gaffreel_volume_advance       3,712
- *     gaffreel_volume_read          2,752
- *     gaffreel_volume_verify        2,688
- *     gaffreel_volume_format_keyed  3,712
- *     gaffreel_volume_open_keyed    3,968
- *     gaffreel_volume_write_keyed   2,880
- *     gaffreel_volume_read_keyed    2,816
- *     gaffreel_volume_verify_keyed  2,752
+ *     gaffreel_volume_read          2,304
+ *     gaffreel_volume_verify        2,240
+ *     gaffreel_volume_format_keyed  3,264
+ *     gaffreel_volume_open_keyed    3,520
+ *     gaffreel_volume_write_keyed   2,432
+ *     gaffreel_volume_read_keyed    2,368
+ *     gaffreel_volume_verify_keyed  2,368
  *     gaffreel_tree_length             64
- *     gaffreel_tree_build           2,560
- *     gaffreel_tree_verify          2,176
+ *     gaffreel_tree_build           2,112
+ *     gaffreel_tree_verify          1,728
  *
  * An interrupt taken on the same stack comes on top, and must leave the 128 bytes below the stack pointer as they are: the
  * archive uses them, as the calling convention allows (the red zone).
