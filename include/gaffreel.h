@@ -273,9 +273,11 @@ uint32_t gaffreel_hmac_sha256(const uint8_t *key, size_t key_length, const uint8
  * store: first to the journal, then, from the acknowledgement on, to the sectors themselves. After a power cut an open
  * finds what is to be replayed, and steps replay it.
  *
- * Between two calls the caller keeps a state, in a buffer of its own, and the staging buffer. With tags of 8, 16 or 32 bytes
- * staging has 168, 128 or 88 sectors, and a batch takes 160, 120 or 80 writes. All numbers in the buffers below are
- * little-endian and have 8 bytes.
+ * Between two calls the caller keeps a state, in a buffer of its own, and the staging buffer. With tags of 1 to 8, 9 to 16,
+ * 17 to 24 or 25 to 32 bytes staging has 168, 128, 104 or 88 sectors, and a batch takes 160, 120, 96 or 80 writes. Behind its
+ * commit a batch takes two stores for each write, or three where the sector's tag lies across two sectors: with N sectors in
+ * a run and tags of T bytes, where (s mod N) * T mod 512 + T is above 512. Of sectors that are damaged at random, a tag of T
+ * bytes lets one in 256^T pass. All numbers in the buffers below are little-endian and have 8 bytes.
  */
 
 /* The length of a sector, in bytes. */
@@ -283,7 +285,7 @@ uint32_t gaffreel_hmac_sha256(const uint8_t *key, size_t key_length, const uint8
 
 /*
  * The length of a layout, in bytes: the reserved sectors, at 0 (at most 64); the base-two logarithm of the sectors of a run,
- * at 8 (3 to 15); the bytes of a tag, at 16 (8, 16 or 32); the sections of the journal, at 24 (1 to 64); the sectors
+ * at 8 (3 to 15); the bytes of a tag, at 16 (1 to 32); the sections of the journal, at 24 (1 to 64); the sectors
  * provided, at 32 (1 to 65,536); three numbers that have no meaning yet and are 0, at 40, 48 and 56.
  */
 #define GAFFREEL_VOLUME_LAYOUT_SIZE 64
@@ -311,7 +313,7 @@ enum gaffreel_volume_phase {
     GAFFREEL_VOLUME_FILLING = 0,
     /* The sector of the section that is stored next. */
     GAFFREEL_VOLUME_COMMITTING = 1,
-    /* The entry, and its store that is made next: 0 for its data, 1 for its tag. */
+    /* The entry, and its store that is made next: 0 for its data, 1 for its tag, 2 for what of that lies in the next sector. */
     GAFFREEL_VOLUME_WRITING_BACK = 2,
     /* The store of the replay that is made next. */
     GAFFREEL_VOLUME_RECOVERING = 3

@@ -1,13 +1,17 @@
-"""layout.svg: the volume of document 01's example, section "Volume layout", and one whose last run is short."""
+"""layout.svg: the volume of document 01's example, section "Volume layout", and one whose last run is short.
+
+Below, a tag of document 02, order 4, that lies across two sectors.
+"""
 
 from svg import KINDS, LEFT, RIGHT, RULE, Drawing
 from volume import (
-    EXAMPLE, LONGER, METADATA, SECTOR, SHOWN, SHOWN_LONGER, SUPERBLOCK, SUPERBLOCK_BYTES,
+    CROSSING, EXAMPLE, LONGER, METADATA, SECTOR, SHOWN, SHOWN_CROSSING, SHOWN_LONGER, SUPERBLOCK, SUPERBLOCK_BYTES,
     number, place_sum, superblock_fields, tag_sum,
 )
 
 CELL = 34  # the height of a row of sectors or tags
 BYTE = 22  # the width of a byte
+OTHERS, GAP = 24, 40  # the widths of tags left out, and of the room between two sectors
 
 
 def volume_parts(g):
@@ -129,8 +133,78 @@ def draw_longer(drawing, g, s, x, y):
     drawing.text(x, y + 230, tag_sum(g, s))
 
 
+def bytes_before(g, s):
+    """How many bytes of the tag of s lie before the end of its first sector."""
+    return SECTOR - g.tag_offset(s) % SECTOR
+
+
+def draw_end(drawing, g, s, x, y, byte):
+    """The end of a sector: the tag before that of s, and the first bytes of that of s. Answers where the sector ends."""
+    start, before = g.tag_offset(s), bytes_before(g, s)
+    tag = x + OTHERS + g.T * byte
+    end = tag + before * byte
+    drawing.field(x, y, OTHERS, CELL, "tag", "…")
+    drawing.field(x + OTHERS, y, g.T * byte, CELL, "tag", f"tag {s - 1}")
+    drawing.field(tag, y, before * byte, CELL, "tag", str(s), style="cell")
+    drawing.outline(tag, y, before * byte, CELL)
+    drawing.mark(x + OTHERS, y + CELL, f"byte {start - g.T}", "start")
+    drawing.mark(tag, y + CELL, str(start), "end")
+    drawing.mark(end, y + CELL, str(start + before), "start")
+    return end
+
+
+def draw_beginning(drawing, g, s, x, y, byte):
+    """The beginning of the next sector: the other bytes of the tag of s, and the tag behind it."""
+    start, rest = g.tag_offset(s + 1), g.T - bytes_before(g, s)
+    behind = x + rest * byte
+    drawing.field(x, y, rest * byte, CELL, "tag", f"tag {s}")
+    drawing.field(behind, y, g.T * byte, CELL, "tag", f"tag {s + 1}")
+    drawing.field(behind + g.T * byte, y, OTHERS, CELL, "tag", "…")
+    drawing.outline(x, y, rest * byte, CELL)
+    drawing.mark(x, y + CELL, str(start - rest), "start")
+    drawing.mark(behind, y + CELL, str(start))
+    drawing.mark(behind + g.T * byte, y + CELL, str(start + g.T))
+
+
+def draw_two_sectors(drawing, g, s, y):
+    """The two sectors with the tag of s, where they meet: the tag and its neighbours to scale."""
+    first, second = g.entry_stores(s)[1:]
+    start = (first - g.run(s)) * SECTOR
+    before, byte = bytes_before(g, s), (RIGHT - LEFT - 2 * OTHERS - GAP) / (3 * g.T)
+    x = draw_end(drawing, g, s, LEFT, y, byte) + GAP
+    draw_beginning(drawing, g, s, x, y, byte)
+    for left, sector, at in ((LEFT, first, start), (x, second, start + SECTOR)):
+        drawing.lead(left, y - 8, f"Sector {sector}.", f"bytes {at} to {number(at + SECTOR - 1)} of the tag area")
+    drawing.text(LEFT, y + 76, f"Stored first, with only the tag's {before} bytes replaced")
+    drawing.text(x, y + 76, f"Stored next, with only the tag's other {g.T - before} bytes replaced")
+
+
+def draw_crossing(drawing, g, s, y):
+    """A tag across two sectors, and how it is written back."""
+    data, first, second = g.entry_stores(s)
+    before = bytes_before(g, s)
+    start = f"The tag of sector {s} starts at byte {s % g.N} × {g.T} = {g.tag_offset(s)} of the tag area"
+    lies = f"{before} of its bytes lie in sector {first}, the other {g.T - before} in sector {second}"
+    rule = f"The tag of s lies across two sectors if ((s mod N) × T mod {SECTOR}) + T > {SECTOR}"
+    drawing.text(LEFT, y, f"T {g.T}, N {g.N}, P {g.P} instead: a tag across two sectors", "heading")
+    drawing.text(LEFT, y + 24, f"{start}: {lies}", "note")
+    draw_two_sectors(drawing, g, s, y + 60)
+    drawing.text(LEFT, y + 164, f"{rule}. Its entry then takes three stores instead of two:", "note")
+    drawing.text(LEFT, y + 182, f"its data, then the lower tag sector, then the next. Here these are {data}, {first} and {second}.", "note")
+
+
 def described(g, s):
     return f"logical sector {s} lies at {g.place(s)}, its tag at byte {number(g.tag_byte(s))}."
+
+
+def described_crossing(g, s):
+    data, first, second = g.entry_stores(s)
+    before = bytes_before(g, s)
+    return (
+        f"A third volume, with T {g.T}, N {g.N} and P {g.P}, has the tag of logical sector {s} across two sectors: its first {before} "
+        f"bytes are the last of sector {first}, its other {g.T - before} the first of sector {second}. Its entry is written back by "
+        f"three stores, to {data}, {first} and {second}, each tag sector with only that tag's bytes replaced."
+    )
 
 
 def description(g):
@@ -138,7 +212,7 @@ def description(g):
         f"A volume of {g.sectors} sectors, to scale. Superblock: sectors {g.r} to {g.journal - 1}. Journal: {g.journal} to {g.B - 1}. "
         f"Tag area: {g.B} to {g.place(0) - 1}. Data: {g.place(0)} to {g.sectors - 1}. There, {described(g, SHOWN)} The superblock's "
         f"fields are shown to the byte. A second volume, with P {LONGER.P}, has {LONGER.sectors} sectors and a second, short run. There, "
-        f"{described(LONGER, SHOWN_LONGER)}"
+        f"{described(LONGER, SHOWN_LONGER)} {described_crossing(CROSSING, SHOWN_CROSSING)}"
     )
 
 
@@ -156,7 +230,7 @@ def draw_runs(drawing, g, s, y):
 
 def draw():
     g = EXAMPLE
-    drawing = Drawing("The volume, sector by sector", description(g), 766)
+    drawing = Drawing("The volume, sector by sector", description(g), 1016)
     parameters = f"r {g.r}, tag bytes T {g.T}, run length N {g.N}, sections S {g.S}, provided sectors P {g.P}"
     drawing.head(f"{g.sectors} sectors of {SECTOR} bytes, to scale: {parameters}")
     at = draw_whole(drawing, g, 114)
@@ -168,4 +242,6 @@ def draw():
     drawing.line([(LEFT, 470), (RIGHT, 470)], RULE)
     draw_superblock(drawing, g, LEFT, 502)
     draw_longer(drawing, LONGER, SHOWN_LONGER, 540, 502)
+    drawing.line([(LEFT, 774), (RIGHT, 774)], RULE)
+    draw_crossing(drawing, CROSSING, SHOWN_CROSSING, 806)
     return drawing

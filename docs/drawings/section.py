@@ -1,15 +1,19 @@
-"""section.svg: document 01, "A journal section", to the byte, with one entry's 512 data bytes followed to their two places."""
+"""section.svg: document 01, "A journal section", to the byte, with one entry's 512 data bytes followed to their two places.
+
+Below stands an entry whose tag part is rounded up, by document 02, order 4.
+"""
 
 from svg import LEFT, RIGHT, RULE, Drawing
 from volume import (
-    BODY, ENTRIES_END, ENTRY_SHOWN, EXAMPLE, METADATA, SECTOR, TAGS, WORD, entry_count, entry_size, number,
-    per_sector, section_size,
+    BODY, ENTRIES_END, ENTRY_SHOWN, EXAMPLE, METADATA, PADDED, SECTOR, TAG_RANGES, WORD, entry_count, entry_size,
+    per_sector, section_size, section_sizes,
 )
 
 BAR, BAND = 36, 8  # the heights of a row of fields, and of the band of commit ids
 COLUMN = 560  # where the metadata sector's column ends
 SECOND = 600  # where the data sector's column begins
 ID = 60  # the width of the last 8 bytes of a sector
+BYTE = (COLUMN - LEFT) / entry_size(EXAMPLE.T)  # the width of a byte of an entry
 
 
 def sector_at(tag, sector):
@@ -59,16 +63,34 @@ def draw_marks(drawing, y, places):
 
 
 def draw_entry(drawing, tag, i, y):
-    """The entry's fields to scale. Answers the middle of its last 8 data bytes."""
-    size, count = entry_size(tag), per_sector(tag)
-    byte = (COLUMN - LEFT) / size
-    first = i % count * size
+    """Entry i. Answers the middle of its last 8 data bytes."""
+    size = entry_size(tag)
+    first = i % per_sector(tag) * size
     drawing.lead(LEFT, y - 10, f"Entry {i}.", f"{size} bytes, from byte {first} of its metadata sector")
-    drawing.field(LEFT, y, WORD * byte, BAR, "plain", "logical", "sector")
-    drawing.field(LEFT + WORD * byte, y, WORD * byte, BAR, "data", f"last {WORD}", "data bytes")
-    drawing.field(LEFT + 2 * WORD * byte, y, tag * byte, BAR, "tag", f"tag of T = {tag} bytes")
-    draw_marks(drawing, y + BAR, {LEFT + at * byte: at for at in (0, WORD, 2 * WORD, size)})
-    return LEFT + 1.5 * WORD * byte
+    draw_entry_fields(drawing, tag, y)
+    return LEFT + 1.5 * WORD * BYTE
+
+
+def draw_entry_fields(drawing, tag, y):
+    """An entry's fields to scale, with the zeros behind the tag if there are any."""
+    size, end = entry_size(tag), 2 * WORD + tag
+    drawing.field(LEFT, y, WORD * BYTE, BAR, "plain", "logical", "sector")
+    drawing.field(LEFT + WORD * BYTE, y, WORD * BYTE, BAR, "data", f"last {WORD}", "data bytes")
+    drawing.field(LEFT + 2 * WORD * BYTE, y, tag * BYTE, BAR, "tag", f"tag of T = {tag} bytes")
+    if end < size:
+        drawing.field(LEFT + end * BYTE, y, (size - end) * BYTE, BAR, "zero", "zeros")
+    draw_marks(drawing, y + BAR, {LEFT + at * BYTE: at for at in (0, WORD, 2 * WORD, end, size)})
+
+
+def draw_padded(drawing, tag, y):
+    """An entry whose tag part is longer than its tag, and the rule."""
+    size = entry_size(tag)
+    zeros = size - 2 * WORD - tag
+    drawing.lead(LEFT, y - 10, f"An entry with T {tag}.", f"{size} bytes, to the same scale: {zeros} zero bytes of padding")
+    draw_entry_fields(drawing, tag, y)
+    drawing.text(SECOND, y + 4, "An entry's tag part is T rounded up to a")
+    drawing.text(SECOND, y + 22, f"multiple of {WORD}, with zeros behind the tag.")
+    drawing.text(SECOND, y + 40, "In the tag area a tag takes T bytes.")
 
 
 def draw_data_sector(drawing, i, y):
@@ -88,47 +110,55 @@ def draw_write(drawing, y):
 
 
 def draw_table(drawing, x, y):
-    """The sizes for each tag size."""
+    """The sizes for each tag size, a row to those that have the same."""
     heads = [
         ("T", "tag bytes"),
-        ("entry", f"{2 * WORD} + T bytes"),
+        ("entry", f"{2 * WORD} + {WORD} × ceil(T / {WORD})"),
         ("entries a sector", f"{ENTRIES_END} div entry"),
         ("E", f"{METADATA} × these"),
         ("M", f"{METADATA} + E sectors"),
     ]
-    rows = [(tag, entry_size(tag), per_sector(tag), entry_count(tag), section_size(tag)) for tag in TAGS]
-    columns = (x + 56, x + 140, x + 266, x + 346, x + 444)
-    for right, (name, rule), numbers in zip(columns, heads, zip(*rows)):
+    rows = [(words, *section_sizes(last)) for words, (_, last) in zip(range_words(), TAG_RANGES)]
+    columns = (x + 56, x + 184, x + 308, x + 376, x + 468)
+    for right, (name, rule), cells in zip(columns, heads, zip(*rows)):
         drawing.text(right, y, name, "strong", "end")
         drawing.text(right, y + 16, rule, "small", "end")
-        draw_column(drawing, right, y + 42, numbers)
+        draw_column(drawing, right, y + 42, cells)
     drawing.line([(x, y + 24), (columns[-1], y + 24)])
 
 
-def draw_column(drawing, right, y, numbers):
-    for row, size in enumerate(numbers):
-        drawing.text(right, y + 22 * row, number(size), "label", "end")
+def range_words():
+    """Each range of tag sizes with one entry size, in words."""
+    return [f"{first} to {last}" for first, last in TAG_RANGES]
+
+
+def draw_column(drawing, right, y, cells):
+    for row, words in enumerate(cells):
+        drawing.text(right, y + 22 * row, str(words), "label", "end")
 
 
 def draw_rules(drawing, tag, x, y):
     rules = [
-        ("Entry i:", f"in metadata sector i div {per_sector(tag)}, at slot i mod {per_sector(tag)}"),
+        (f"Entry i, T {tag}:", f"in metadata sector i div {per_sector(tag)}, at slot i mod {per_sector(tag)}"),
         ("Its data:", f"in sector {METADATA} + i of the section, and in the entry"),
         ("Unused entry:", "logical sector 2⁶⁴ − 1, all else zero, data too"),
         ("Mac:", f"{WORD} bytes, zero, ignored"),
         ("Commit id n:", "goes to section (n − 1) mod S"),
-        ("Whole section:", f"all {section_size(tag)} sectors carry one id, not zero"),
+        ("Whole section:", "all M sectors carry one id, not zero"),
     ]
     for line, (name, rule) in enumerate(rules):
         drawing.lead(x, y + 20 * line, name, rule)
 
 
-def description(tag):
+def description(tag, padded):
+    *ranges, last_range = range_words()
     return (
         f"With tags of {tag} bytes a section has {METADATA} metadata sectors and {entry_count(tag)} data sectors. A metadata sector "
         f"has {per_sector(tag)} entries of {entry_size(tag)} bytes, zeros to byte {ENTRIES_END}, {WORD} mac bytes and the commit id of "
-        f"{WORD} bytes. An entry is the logical sector, the last {WORD} data bytes and the tag. The first {BODY} data bytes stand in "
-        f"the entry's data sector, before its commit id. A table has the sizes for tags of {TAGS[0]}, {TAGS[1]} and {TAGS[2]} bytes."
+        f"{WORD} bytes. An entry is the logical sector, the last {WORD} data bytes and the tag, which zeros fill up to a multiple of "
+        f"{WORD} bytes. The first {BODY} data bytes stand in the entry's data sector, before its commit id. With tags of {padded} bytes "
+        f"an entry has {entry_size(padded)} bytes: {entry_size(padded) - 2 * WORD - padded} zero bytes stand behind the tag. A table has "
+        f"the sizes for tags of {', '.join(ranges)} and {last_range} bytes."
     )
 
 
@@ -149,8 +179,8 @@ def draw_split(drawing, field, first, second, turn):
 
 def draw():
     tag, i = EXAMPLE.T, ENTRY_SHOWN
-    top, first, second, turn, low = 112, 246, 372, 450, 506
-    drawing = Drawing("A journal section, to the byte", description(tag), 632)
+    top, first, second, turn, third, low = 112, 246, 372, 450, 504, 614
+    drawing = Drawing("A journal section, to the byte", description(tag, PADDED), 750)
     sizes = f"E = {entry_count(tag)} entries, M = {section_size(tag)} sectors of {SECTOR} bytes"
     drawing.head(f"T {tag}: {sizes}. The first strip is to scale; below it, entry {i} is followed to its bytes")
     draw_zooms(drawing, tag, i, top + 70, first - 30)
@@ -161,7 +191,8 @@ def draw():
     draw_data_sector(drawing, i, first)
     draw_write(drawing, second)
     draw_split(drawing, field, first, second, turn)
-    drawing.line([(LEFT, turn + 26), (RIGHT, turn + 26)], RULE)
+    draw_padded(drawing, PADDED, third)
+    drawing.line([(LEFT, low - 30), (RIGHT, low - 30)], RULE)
     draw_table(drawing, LEFT, low)
     draw_rules(drawing, tag, 530, low)
     return drawing

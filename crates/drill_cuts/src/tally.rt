@@ -40,33 +40,57 @@ pub(crate) fn unsettled(t: Tally) -> Tally {
 }
 
 // One more, after which it was: every sector is read.
-fn settled(t: Tally, s: State, key: &[u8], v: &[u8], st: &[u8], stores: usize) -> Tally {
+fn settled(
+    t: Tally,
+    s: State,
+    key: &[u8],
+    crossing: bool,
+    v: &[u8],
+    st: &[u8],
+    stores: usize,
+) -> Tally {
     Tally {
         drills: plus(t.drills, 1),
         settled: plus(t.settled, 1),
-        read: plus(t.read, script::PROVIDED),
-        agree: plus(t.agree, agreeing(s, key, v, st, stores)),
+        read: plus(t.read, script::provided(crossing)),
+        agree: plus(t.agree, agreeing(s, key, crossing, v, st, stores)),
     }
 }
 
 // One more, and what it left.
-pub(crate) fn add(t: Tally, last: Moment, key: &[u8], v: &[u8], st: &[u8], stores: usize) -> Tally {
+pub(crate) fn add(
+    t: Tally,
+    last: Moment,
+    key: &[u8],
+    crossing: bool,
+    v: &[u8],
+    st: &[u8],
+    stores: usize,
+) -> Tally {
     if !last.settled {
         return unsettled(t);
     }
     let live = last.live;
     match live {
         Live::Off => unsettled(t),
-        Live::On(s) => settled(t, s, key, v, st, stores),
+        Live::On(s) => settled(t, s, key, crossing, v, st, stores),
     }
 }
 
 // How many sectors read as the ledger has them after so many stores.
-fn agreeing(s: State, key: &[u8], v: &[u8], st: &[u8], stores: usize) -> usize {
+fn agreeing(s: State, key: &[u8], crossing: bool, v: &[u8], st: &[u8], stores: usize) -> usize {
+    let provided = script::provided(crossing);
     let mut n = 0;
     let mut sector = 0;
-    while sector < script::PROVIDED {
-        if reads(s, key, v, st, sector, script::expected(sector, stores)) {
+    while sector < provided {
+        if reads(
+            s,
+            key,
+            v,
+            st,
+            sector,
+            script::expected(crossing, sector, stores),
+        ) {
             n = plus(n, 1);
         }
         sector += 1;
@@ -94,9 +118,12 @@ fn read(s: State, key: &[u8], v: &[u8], st: &[u8], sector: usize, bytes: &mut [u
 }
 
 // A line.
-pub(crate) fn print(t: Tally, key: &[u8], sections: usize) {
+pub(crate) fn print(t: Tally, key: &[u8], crossing: bool, sections: usize) {
     if key.len() != 0 {
         io::write_all(STDOUT_FILENO, b"with a key, ");
+    }
+    if crossing {
+        io::write_all(STDOUT_FILENO, b"a tag across two sectors, ");
     }
     number(b"sections ", sections);
     number(b": drills ", t.drills);

@@ -15,9 +15,10 @@ use Rattle.model.specs.declared.State.{State}
 use Rattle.model.specs.declared.Refusal.{Refusal}
 use Rattle.model.specs.declared.Refusal.the-variants as volume
 use Rattle.model.specs.Refusal.{refusalOf}
-use Rattle.on_disk.specs.Layout.{widthOk, layoutOk, entrySize, perSector, entryCount, sectionSize, tagArea, dataAt, tagByte, needed}
+use Rattle.on_disk.specs.Layout.{widthOk, layoutOk, entrySize, perSector, entryCount, sectionSize, tagArea, dataAt, tagStart, tagByte, needed}
 use Rattle.on_disk.specs.Section.{emptySection}
 use Rattle.model.specs.Journal.{sectionFor}
+use Rattle.model.specs.Store.{homeCount}
 use Rattle.model.specs.State.{stateOk, stagingOk}
 use Rattle.model.specs.Tag.{tagOf}
 use Rattle.model.specs.Format.{formatOf}
@@ -45,6 +46,18 @@ tagged n = record { reserved = 0; shift = n; width = 32; sections = 1; provided 
 abbrev journalled : ℕ → Layout
 journalled s = record { reserved = 0; shift = 4; width = 32; sections = s; provided = 16 }
 
+-- tags of 20 bytes on runs of 8 sectors
+abbrev ward : Layout
+ward = record { reserved = 0; shift = 3; width = 20; sections = 1; provided = 8 }
+
+-- tags of 30 bytes on runs of 32 sectors, of which 24 are provided
+abbrev crossing : Layout
+crossing = record { reserved = 0; shift = 5; width = 30; sections = 1; provided = 24 }
+
+-- how many stores bring an entry for logical sector s home there
+abbrev storesFor : ℕ → ℕ
+storesFor s = homeCount crossing (record { sector = s; bytes = []; tag = [] })
+
 -- a refusal's number and values; nothing where the call is taken
 abbrev refusalIn : {A : Type 0} → Answer ℕ A → List ℕ
 refusalIn (taken x) = []
@@ -52,6 +65,10 @@ refusalIn (refused r) = r .number ∷ r .values
 
 abbrev opened : State
 opened = record { layout = bench 16; phase = Filling; count = 0; id = 1 }
+
+-- how a format with tags of t bytes is refused
+abbrev refusedWidth : ℕ → List ℕ
+refusedWidth t = refusalIn (formatOf tagOf (record { reserved = 0; shift = 4; width = t; sections = 1; provided = 16 }) (replicate (128 * 512) 0) .answer)
 
 -- how a write with a key of n bytes is refused
 abbrev keyed : ℕ → List ℕ
@@ -75,6 +92,26 @@ table =
     record { given = entrySize 16 ∷ perSector 16 ∷ entryCount 16 ∷ sectionSize 16 ∷ []; paper = 32 ∷ 15 ∷ 120 ∷ 128 ∷ [] } ∷
     -- T 32, likewise
     record { given = entrySize 32 ∷ perSector 32 ∷ entryCount 32 ∷ sectionSize 32 ∷ []; paper = 48 ∷ 10 ∷ 80 ∷ 88 ∷ [] } ∷
+    -- T 20 (R115), likewise
+    record { given = entrySize 20 ∷ perSector 20 ∷ entryCount 20 ∷ sectionSize 20 ∷ []; paper = 40 ∷ 12 ∷ 96 ∷ 104 ∷ [] } ∷
+    -- T from 1 to 8: the bytes of an entry at either end of the range
+    record { given = entrySize 1 ∷ entrySize 8 ∷ []; paper = 24 ∷ 24 ∷ [] } ∷
+    -- T from 9 to 16, likewise
+    record { given = entrySize 9 ∷ entrySize 16 ∷ []; paper = 32 ∷ 32 ∷ [] } ∷
+    -- T from 17 to 24, likewise
+    record { given = entrySize 17 ∷ entrySize 24 ∷ []; paper = 40 ∷ 40 ∷ [] } ∷
+    -- T from 25 to 32, likewise
+    record { given = entrySize 25 ∷ entrySize 32 ∷ []; paper = 48 ∷ 48 ∷ [] } ∷
+    -- how T 0 and T 33 are refused
+    record { given = refusedWidth 0 ++ refusedWidth 33; paper = 2 ∷ 2 ∷ [] } ∷
+    -- T 20, N 8, P 8, and T 30, N 32, P 24: the sectors needed, which the bench program takes
+    record { given = needed ward ∷ needed crossing ∷ []; paper = 128 ∷ 128 ∷ [] } ∷
+    -- T 30, N 32, P 24: the byte of the tag area at which the tag of sector 17 starts, so that it goes on in the next sector; the stores of sectors 16, 17 and
+    -- 18, and of 49, which is not below P and has 49 mod N = 17 (R116, R117)
+    record {
+      given = tagStart crossing 17 ∷ storesFor 16 ∷ storesFor 17 ∷ storesFor 18 ∷ storesFor 49 ∷ [];
+      paper = 510 ∷ 2 ∷ 3 ∷ 2 ∷ 3 ∷ [];
+    } ∷
     -- T 32: A, R19, for N 128 and N 256
     record { given = tagArea (tagged 7) ∷ tagArea (tagged 8) ∷ []; paper = 8 ∷ 16 ∷ [] } ∷
     -- P 16: the sectors needed, and how a volume of one less is refused
@@ -116,7 +153,7 @@ allSame (row ∷ rows) = same (row .given) (row .paper) && allSame rows
 
 -- THE CLAIM
 pub starred-examples : allSame table ≡ true
-unfolding layoutOk widthOk formatOf writeOf writeKeyedOf stateOk stagingOk emptySection levelsAbove levelsOf hashBlocksOf buildOf
+unfolding layoutOk widthOk homeCount formatOf writeOf writeKeyedOf stateOk stagingOk emptySection levelsAbove levelsOf hashBlocksOf buildOf
 starred-examples = refl
 
 -- ---- the refusals, R71

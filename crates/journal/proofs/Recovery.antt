@@ -21,7 +21,7 @@ module _ (g : Layout) (v : List ℕ) where
   step-store k = List·getD-map storing (entryStores g (replay g v)) k noStore
 
   module _ (ok : layoutOk g ≡ true) where
-    pub steps-high : stepsOf g (replay g v) ≤ 31744
+    pub steps-high : stepsOf g (replay g v) ≤ 47616
     steps-high = omega (arith, steps-stores g (replay g v), replay-high g v ok)
 
     -- step n, which x names

@@ -1,11 +1,15 @@
 -- Bounds of sizes and addresses, for layouts in range. A product of two variables is bounded by the product of their bounds.
 use Prim.Native.Nat.{ℕ, _+_, _*_, _/_, _%_, _^_, _≤_, _<_}
 use mathlib.Core.Bool.{true}
-use mathlib.Core.Path.{_≡_, refl, ap}
+use mathlib.Core.Path.{_≡_, refl, sym, ap}
 use native.Mathlib.Nat.{mul-le-mul, mul-le-mul-left, div-add-mod', mod-lt, pow-le-pow-right}
 use native.Mathlib.Omega.{arith}
 use lib.Pow.{pow-pos}
-use Rattle.on_disk.specs.Layout.{mostProvided, entrySize, perSector, sectionSize, runLength, tagArea, sectionAt, needed, layoutOk}
+use borrow.Author.Tests.{lt-ltb, le-ltb}
+use Rattle.on_disk.specs.Layout.{mostProvided, entrySize, perSector, sectionSize, runLength, tagArea, sectionAt, tagOffset, needed, layoutOk}
+use Rattle.on_disk.specs.Section.{Entry}
+use Rattle.model.specs.Store.{homeCount}
+use Rattle.model.proofs.Plans.{home-in-one, home-in-two}
 use Rattle.on_disk.specs.declared.Layout.{Layout}
 use Rattle.on_disk.proofs.Addresses.{Ranged, ranged, section-low, base-room}
 
@@ -75,6 +79,18 @@ module _ (g : Layout) (ok : layoutOk g ≡ true) where
           let number : s / n ≤ 65535 = omega arith in
           let size : a + n ≤ 34816 = omega (arith, run-high) in
           (rw (is-length, is-area), mul-le-mul number size)
+
+  -- ---- the stores of an entry, by where its tag ends
+
+  module _ (n : ℕ) (is-length : n ≡ runLength g) (s : ℕ) (e : Entry) (is-sector : e .sector ≡ s) where
+    ends-at : tagOffset g (e .sector) + g .width ≡ s % n * g .width % 512 + g .width
+    ends-at = rw (is-sector, is-length)
+
+    pub in-two : 512 < s % n * g .width % 512 + g .width → 3 ≡ homeCount g e
+    in-two l = sym (home-in-two g e (lt-ltb 512 (tagOffset g (e .sector) + g .width) (rw ends-at l)))
+
+    pub in-one : s % n * g .width % 512 + g .width ≤ 512 → 2 ≡ homeCount g e
+    in-one l = sym (home-in-one g e (le-ltb 512 (tagOffset g (e .sector) + g .width) (rw ends-at l)))
 
   -- section k ends within the volume
   pub section-inside : (n k : ℕ) → needed g * 512 ≤ n → k < g .sections → (sectionAt g k + sectionSize (g .width)) * 512 ≤ n

@@ -28,6 +28,9 @@ pub const LEAST_SHIFT: usize = 3;
 
 pub const MOST_SHIFT: usize = 15;
 
+// T
+pub const MOST_WIDTH: usize = 32;
+
 // S
 pub const MOST_SECTIONS: usize = 64;
 
@@ -47,7 +50,7 @@ pub const METADATA_SIZE: usize = 8;
 const ENTRIES_SIZE: usize = 496;
 
 // The most stores that bring an entry home.
-pub const MOST_HOME_STORES: usize = 2;
+pub const MOST_HOME_STORES: usize = 3;
 
 // ---- ranges
 
@@ -58,11 +61,11 @@ pub fn volume_loan_ok(v: &[u8]) -> bool
     (v.len() % SECTOR_SIZE == 0) & (v.len() <= MOST_SECTORS * SECTOR_SIZE)
 }
 
-// Whether T is 8, 16 or 32.
+// Whether T is from 1 to 32.
 pub fn width_ok(t: usize) -> bool
     ensures { λ r. ⌜ r ≡ widthOk t ⌝ }
 {
-    (t == 8) | (t == 16) | (t == 32)
+    (1 <= t) & (t <= MOST_WIDTH)
 }
 
 // Whether every parameter is in range.
@@ -79,12 +82,18 @@ pub fn layout_ok(g: Layout) -> bool
 
 // ---- a section
 
-// The bytes of a journal entry: its logical sector, its last data bytes and its tag.
+// The bytes of a journal entry: its logical sector, its last data bytes and its tag, rounded up to a multiple of 8 bytes. No tag has 0 bytes.
 pub fn entry_size(t: usize) -> usize
     requires { ⌜ t ≤ mostWidth ⌝ }
     ensures { λ r. ⌜ (r ≡ entrySize t) × (r ≤ 48) ⌝ }
 {
-    8 + 8 + t
+    match t {
+        1..=8 => 24,
+        9..=16 => 32,
+        17..=24 => 40,
+        25..=32 => 48,
+        _ => 16,
+    }
 }
 
 // The entries in a metadata sector.
@@ -162,11 +171,17 @@ pub fn tag_byte(g: Layout, s: usize) -> usize
     run_at(g, s) * SECTOR_SIZE + s % run_length(g) * g.width
 }
 
-// How many stores bring an entry for a logical sector home: its data sector, then the sector with its tag.
+// How many stores bring an entry for a logical sector home: its data sector, the sector in which its tag begins, and the next one if the tag goes on in it.
+// Any number may be asked.
 pub fn home_stores(g: Layout, sector: u64) -> usize
+    requires { ⌜ layoutOk g ≡ true ⌝ }
     ensures { λ r. ⌜ ((e : Entry) → e .sector ≡ sector → r ≡ homeCount g e) × (0 < r) × (r ≤ mostHomeStores) ⌝ }
 {
-    MOST_HOME_STORES
+    let place = (sector % run_length(g) as u64) as usize;
+    if SECTOR_SIZE < place * g.width % SECTOR_SIZE + g.width {
+        return 3;
+    }
+    2
 }
 
 // The sectors that the layout needs.

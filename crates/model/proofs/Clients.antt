@@ -1,23 +1,26 @@
 -- Uses of the top statements, each at an instance that only the whole statement gives: so that a statement which is made weaker, and is then still
 -- proved, is refused here.
-use Prim.Native.Nat.{ℕ, _+_, _-_, _*_, _^_, _<_}
-use mathlib.Core.Bool.{true, _&&_}
+use Prim.Native.Nat.{ℕ, _+_, _-_, _*_, _^_, _≤_, _<_}
+use mathlib.Core.Bool.{true, false, _&&_}
 use mathlib.Core.Logic.{_≢_, _⊎_}
 use mathlib.Core.List.{List, [], _∷_, _++_}
 use mathlib.Core.Path.{_≡_, refl, sym, ap, _∙_}
 use native.Mathlib.Omega.{arith}
 use lib.Dec.{leb, eqb}
 use lib.ListN.{length, getD, drop, replicate, length-append, length-replicate}
-use Rattle.octets.specs.Answer.{taken, isTaken, numberIn}
+use Rattle.octets.specs.Answer.{taken, refuse, isTaken, numberIn}
+use Rattle.octets.specs.Parts.{patch}
 use Rattle.octets.specs.Sectors.{sectorAt}
 use Rattle.hmac.specs.Hmac.{keyOk}
 use Rattle.on_disk.specs.declared.Layout.{Layout}
+use Rattle.model.specs.declared.Phase.the-variants.{WritingBack}
 use Rattle.model.specs.declared.State.{State}
-use Rattle.on_disk.specs.Layout.{sectionSize, dataAt, needed, layoutOk}
-use Rattle.on_disk.specs.Section.{Entry, emptySection}
+use Rattle.on_disk.specs.Layout.{sectionSize, dataAt, tagByte, tagSector, crosses, needed, layoutOk}
+use Rattle.on_disk.specs.Section.{Entry, entryOf, emptySection}
 use Rattle.model.specs.Journal.{wholeId, usedOf}
 use Rattle.model.specs.Tag.{Tags, TagsOf, tagOf, hmacTagOf, tagAt}
-use Rattle.model.specs.State.{passed, volumeLoanOk}
+use Rattle.model.specs.Store.{homeCount, homesMade}
+use Rattle.model.specs.State.{passed, volumeLoanOk, inPhase}
 use Rattle.model.specs.Format.{FormatResult, formatOf}
 use Rattle.model.specs.Open.{openOf}
 use Rattle.model.specs.Write.{writeOf}
@@ -40,6 +43,7 @@ use Rattle.model.proofs.WrongKey.{wrong-key}
 use Rattle.model.proofs.Guarantees.{guaranteed}
 use Rattle.model.proofs.ReadBack.{read-back}
 use Rattle.model.proofs.Reserved.{reserved-unread}
+use Rattle.model.proofs.TagStores.{brings-home, tag-by-its-sectors, third-store}
 
 -- ---- demand 3 and what holds beside it: any tag functions, layout and volume, and a list of events that ends in any way
 
@@ -160,3 +164,20 @@ keyed-home : (key : List ℕ) → keyOk key ≡ true → (g : Layout) (v : List 
     → worldAfter (hmacTagOf key) g v es .settled ≡ true
     → (n : ℕ) → n < g .provided → sectorAt (volumeIn (worldAfter (hmacTagOf key) g v es .medium)) (dataAt g n) ≡ ledgerAfter (hmacTagOf key) g v es .contents n
 keyed-home key ok g v e es q = demand3-hmac key g v (sym (ap (λ (o : FormatResult). o .answer) (keyed-calls .taken key ok .format g v)) ∙ e) es q .home
+
+-- ---- the stores of a tag: the last sector that the volume provides, the greatest number, the last entry of a batch
+
+last-comes-home : (g : Layout) → layoutOk g ≡ true → 0 < g .provided → (v : List ℕ) → needed g * 512 ≤ length v
+    → (e : Entry) → e .sector ≡ g .provided - 1 → length (e .bytes) ≡ 512 → length (e .tag) ≡ g .width
+    → homesMade g v e (homeCount g e) ≡ patch (patch v (dataAt g (e .sector) * 512) (e .bytes)) (tagByte g (e .sector)) (e .tag)
+last-comes-home g ok l v room e q whole sized = brings-home g ok v room e (omega arith) whole sized
+
+greatest-by-its-sectors : (g : Layout) → layoutOk g ≡ true → (v w : List ℕ) → length v ≡ length w
+    → sectorAt v (tagSector g (2 ^ 64 - 1)) ≡ sectorAt w (tagSector g (2 ^ 64 - 1))
+    → (crosses g (2 ^ 64 - 1) ≡ true → sectorAt v (tagSector g (2 ^ 64 - 1) + 1) ≡ sectorAt w (tagSector g (2 ^ 64 - 1) + 1))
+    → tagAt g v (2 ^ 64 - 1) ≡ tagAt g w (2 ^ 64 - 1)
+greatest-by-its-sectors g ok v w e p q = tag-by-its-sectors g ok v w e (2 ^ 64 - 1) p q
+
+third-of-last : (tags : Tags) (s : State) (v st : List ℕ) → crosses (s .layout) (entryOf (s .layout .width) st (s .count - 1) .sector) ≡ false
+    → stepOf (inPhase s (WritingBack (s .count - 1) 2)) v st .answer ≡ refuse 1 []
+third-of-last tags s v st alone = third-store tags .step s v st (s .count - 1) alone

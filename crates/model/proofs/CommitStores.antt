@@ -21,7 +21,7 @@ use Rattle.model.specs.declared.State.{State}
 use Rattle.on_disk.specs.Layout.{mostSectors, sectionSize, sectionAt, needed}
 use Rattle.octets.specs.Lists.{collect}
 use Rattle.model.specs.Journal.{sectionOf, sectionFor, sealed}
-use Rattle.model.specs.State.{volumeLoanOk, replayOk, stateOk, volumeOk, stagingOk, inPhase}
+use Rattle.model.specs.State.{volumeLoanOk, replayOk, stateOk, volumeOk, stagingOk, stagedOk, inPhase}
 use Rattle.model.specs.Store.{one, afterEffect}
 use Rattle.model.specs.Step.{stepOf}
 use Rattle.model.specs.JournalStep.{commitStep}
@@ -75,7 +75,7 @@ module _ (s : State) (v st : List ℕ) (sound : stateOk s ≡ true) (fits : volu
     here = inPhase s (Committing j)
 
     runs : stepOf here u st ≡ commitStep here u st j
-    unfolding stepOf
+    unfolding stepOf stagedOk
     runs = rw (state-commits s sound 0 begins j l, volume-at j u long, staging)
 
     effect-is : stepOf here u st .effect ≡ one (record { at = first + j; content = sealed g st (s .id) j })

@@ -110,7 +110,7 @@ module _ (tag : Tag) (g : Layout) (v₀ : List ℕ) (X : Premises tag g v₀)
           next = ap (λ (x : ℕ). x + 1)
               (sym (whole-top tag g v₀ X (A .u) (l .contents) (A .disk) (A .clean) n m st (A .staged) (A .given) (A .next) j v (A .torn) all));
           place = A .some;
-          half = omega (arith, home-some g (entryOf (g .width) st 0));
+          store = omega (arith, home-some g (entryOf (g .width) st 0));
           within = whole-named tag g v₀ X (A .u) (l .contents) (A .disk) (A .clean) n m st (A .staged) (A .given) (A .next) j v (A .torn) all;
           progress = rw ec
               (subst (λ (b : List Write). Pass (g .provided) (Home g tag v) (entered (l .contents) b) (batchOf (g .width) st n) 0) (A .batch)

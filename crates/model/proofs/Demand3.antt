@@ -49,7 +49,7 @@ use Rattle.on_disk.proofs.Addresses.{and-both, ranged, section-low}
 use Rattle.model.proofs.Homes.{Home}
 use Rattle.model.proofs.Invariant.{Premises, before-journal, stateAt, Disk, AtFilling, Lives, stopped}
 use Rattle.model.proofs.Cuts.{and-false, cuts}
-use Rattle.model.proofs.Steps.{Inv, Leads, never, fillingIn, sound, sound-volume, sound-staging, step-keeps}
+use Rattle.model.proofs.Steps.{Inv, Leads, never, fillingIn, sound, sound-volume, sound-staging, sound-staged, step-keeps}
 use Rattle.model.proofs.Batches.{Filled, it, filled, write-keeps, flush-keeps}
 use Rattle.model.proofs.NextStore.{next-told, next-refused, step-stores}
 use Rattle.model.proofs.Keyed.{keyed-calls}
@@ -251,7 +251,7 @@ module _ (tags : Tags) (g : Layout) (v₀ : List ℕ) (X : Premises (tags (g .wi
         rw (
           sound tag g v₀ X n m Filling (A .staged .count) (omega (arith, A .next)) refl,
           sound-volume tag g v₀ X v n m Filling (D .sized) refl,
-          sound-staging tag g v₀ X st (A .staged .size),
+          sound-staged tag g v₀ X st n m Filling (A .staged .size) refl,
           eq-eqb (length loan) 512 e,
         ),
         (refl, (lt-leb (g .provided) k h, (fit, tt))),

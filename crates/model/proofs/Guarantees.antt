@@ -29,7 +29,7 @@ use Rattle.model.specs.Ledger.{hasLast, Ledger, start, entersNext}
 use Rattle.model.specs.Medium.{Medium, volumeIn}
 use Rattle.model.specs.World.{settingOf, Setting, Live, off, on, World, anOpen, aStep, begin, byOpen, happens, next, after}
 use Rattle.model.specs.StepResult.{stepAcknowledges, stepSettles, StepResult}
-use Rattle.on_disk.proofs.Addresses.{base-room, data-room, tag-room, tag-inside, tag-sector}
+use Rattle.on_disk.proofs.Addresses.{base-room, data-room, tag-end}
 use Rattle.model.proofs.Plans.{at-get}
 use Rattle.model.proofs.Invariant.{Premises, stateAt, Disk, AtRecover, Lives, stopped, working, inFilling, inCommitting, inWritingBack, inRecovering}
 use Rattle.model.specs.Open.{openedState, OpenResult, openBy, openOf}
@@ -214,7 +214,7 @@ module _ (tags : Tags) (g : Layout) (v₀ : List ℕ) (X : Premises (tags (g .wi
       record {
         journal = inr (omega (arith, base-room g (X .ranged)));
         contents = λ s k. inr (omega (arith, data-room g (X .ranged) s k));
-        tags = λ s k. inr (omega (arith, tag-room g (X .ranged) s k, tag-inside g (X .ranged) s, tag-sector g (X .ranged) s));
+        tags = λ s k. inr (omega (arith, tag-end g (X .ranged) s k));
       }
 
   lives-layout : (d : Medium) (l : Ledger) (s : State) (st : List ℕ) → Lives tag g v₀ d l (on s st) → s .layout ≡ g

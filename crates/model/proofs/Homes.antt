@@ -1,25 +1,27 @@
 -- What each kind of store leaves: homes, the journal, and what lies before it.
 use Prim.Native.Nat.{ℕ, zero, suc, _+_, _-_, _*_, _≤_, _<_}
-use mathlib.Core.Path.{_≡_, sym, ap, _∙_}
-use mathlib.Core.Logic.{_≢_}
-use mathlib.Core.List.{List}
+use mathlib.Core.Bool.{true, false}
+use mathlib.Core.Path.{_≡_, refl, sym, ap, _∙_}
+use mathlib.Core.Logic.{_≢_, inl, inr, ⊎-elim}
+use mathlib.Core.List.{List, [], _++_}
 use native.Mathlib.Omega.{arith}
-use lib.ListN.{length, getD}
+use lib.ListN.{length, take, drop, getD, length-take, length-drop, take-append-drop}
+use lib.Seq.{take-all}
 use Rattle.model.specs.Guarantees.{Outside}
 use Rattle.octets.specs.Parts.{part, patch}
 use Rattle.octets.specs.Sectors.{sectorAt, putSector}
-use Rattle.octets.proofs.Parts.{length-patch, part-patch-same, part-patch-before, part-patch-after, getD-patch-other}
+use Rattle.octets.proofs.Parts.{part-add, length-patch, part-patch-same, part-patch-before, part-patch-after, getD-patch-other}
 use Rattle.octets.proofs.Sectors.{put-inside, sector-part, sector-put-same, sector-put-other}
 use Rattle.on_disk.specs.Geometry.{Apart, before, behind}
-use Rattle.on_disk.specs.Layout.{sectionSize, sectionAt, base, dataAt, tagSector, tagOffset, tagByte, needed}
+use Rattle.on_disk.specs.Layout.{sectionSize, sectionAt, base, dataAt, tagSector, tagOffset, tagByte, crosses, firstPart, needed}
 use Rattle.on_disk.specs.Section.{Entry}
 use Rattle.model.specs.Journal.{sectionOf}
 use Rattle.model.specs.Tag.{Tag, tagAt}
 use Rattle.model.specs.Store.{homeCount, homeStore, made}
-use Rattle.model.proofs.Plans.{home-two}
+use Rattle.model.proofs.Plans.{home-in-two, home-some, home-crosses}
 use Rattle.model.proofs.Journals.{front}
 use Rattle.model.proofs.Replays.{Holds, Frame}
-use Rattle.on_disk.proofs.Addresses.{part-apart, Ranged, data-tag, data-data, tag-tag, tag-sector, tag-inside, data-high, tag-high, data-room, tag-room, section-apart, section-low, base-room}
+use Rattle.on_disk.proofs.Addresses.{part-apart, Ranged, data-tag, data-data, tag-tag, tag-sector, tag-offset, not-crossing, crossing, data-high, tag-high, data-room, tag-room, tag-end, next-room, section-apart, section-low, base-room}
 use Rattle.on_disk.specs.declared.Layout.{Layout}
 
 -- sector s is at home with bytes d
@@ -35,35 +37,73 @@ module _ (g : Layout) (R : Ranged g) (tag : Tag) (v : List ℕ) (room : needed g
   data-fits : dataAt g (e .sector) * 512 + length (e .bytes) ≤ length v
   data-fits = omega (arith, data-room g R (e .sector) low)
 
-  tag-fits : tagByte g (e .sector) + length (e .tag) ≤ length v
-  tag-fits = omega (arith, tag-room g R (e .sector) low, tag-inside g R (e .sector), tag-sector g R (e .sector))
+  -- store h replaces the bytes of the tag from `from h` on by `piece h`; of store 0 these are none
+  abbrev pub from : ℕ → ℕ
+  from zero = 0
+  from (suc zero) = 0
+  from (suc (suc h)) = firstPart g (e .sector)
 
-  pub tag-store : made v (homeStore g v e 1) ≡ patch v (tagByte g (e .sector)) (e .tag)
-  tag-store =
-      put-inside v (tagSector g (e .sector)) (tagOffset g (e .sector)) (e .tag)
-      (omega (arith, tag-inside g R (e .sector))) (omega (arith, tag-room g R (e .sector) low))
-      ∙ ap (λ (x : ℕ). patch v x (e .tag)) (tag-sector g R (e .sector))
+  abbrev pub piece : ℕ → List ℕ
+  piece zero = []
+  piece (suc zero) = take (firstPart g (e .sector)) (e .tag)
+  piece (suc (suc h)) = drop (firstPart g (e .sector)) (e .tag)
+
+  pub piece-fits : (h : ℕ) → h < homeCount g e → from h + length (piece h) ≤ g .width
+  piece-fits zero l = omega arith
+  piece-fits (suc zero) l = omega (arith, length-take (firstPart g (e .sector)) (e .tag))
+  piece-fits (suc (suc h)) l =
+      omega (arith, length-drop (firstPart g (e .sector)) (e .tag), crossing g R (e .sector) (home-crosses g e (omega arith)))
+
+  region-fits : (h : ℕ) → h < homeCount g e → tagByte g (e .sector) + from h + length (piece h) ≤ length v
+  region-fits h l = omega (arith, piece-fits h l, tag-end g R (e .sector) low)
+
+  pub tag-store : (h : ℕ) → suc h < homeCount g e
+      → made v (homeStore g v e (suc h)) ≡ patch v (tagByte g (e .sector) + from (suc h)) (piece (suc h))
+  tag-store zero l =
+      let q : tagSector g (e .sector) * 512 + tagOffset g (e .sector) ≡ tagByte g (e .sector) + 0 = omega (arith, tag-sector g R (e .sector)) in
+      put-inside v (tagSector g (e .sector)) (tagOffset g (e .sector)) (piece 1)
+      (omega (arith, length-take (firstPart g (e .sector)) (e .tag), tag-offset g R (e .sector))) (omega (arith, tag-room g R (e .sector) low))
+      ∙ ap (λ (x : ℕ). patch v x (piece 1)) q
+  tag-store (suc h) l =
+      let c : crosses g (e .sector) ≡ true = home-crosses g e (omega arith) in
+      let q : (tagSector g (e .sector) + 1) * 512 + 0 ≡ tagByte g (e .sector) + firstPart g (e .sector) =
+      omega (arith, tag-sector g R (e .sector), tag-offset g R (e .sector)) in
+      put-inside v (tagSector g (e .sector) + 1) 0 (piece 2)
+      (omega (arith, length-drop (firstPart g (e .sector)) (e .tag), R .t .bound)) (omega (arith, next-room g R (e .sector) low c))
+      ∙ ap (λ (x : ℕ). patch v x (piece 2)) q
 
   pub home-length : (h : ℕ) → h < homeCount g e → length (made v (homeStore g v e h)) ≡ length v
   home-length zero l = length-patch v (dataAt g (e .sector) * 512) (e .bytes) data-fits
-  home-length (suc zero) l = ap length tag-store ∙ length-patch v (tagByte g (e .sector)) (e .tag) tag-fits
-  home-length (suc (suc h)) l = absurd (omega (arith, home-two g e))
+  home-length (suc h) l =
+      ap length (tag-store h l) ∙ length-patch v (tagByte g (e .sector) + from (suc h)) (piece (suc h)) (region-fits (suc h) l)
 
   -- what lies before the runs
   pub home-low : (h : ℕ) → h < homeCount g e → (b m : ℕ) → b + m ≤ base g * 512 → part (made v (homeStore g v e h)) b m ≡ part v b m
   home-low zero l b m k =
       part-patch-before v (dataAt g (e .sector) * 512) (e .bytes) data-fits b m (omega (arith, data-high g R (e .sector)))
-  home-low (suc zero) l b m k =
-      ap (λ (x : List ℕ). part x b m) tag-store
-      ∙ part-patch-before v (tagByte g (e .sector)) (e .tag) tag-fits b m (omega (arith, tag-high g R (e .sector), tag-sector g R (e .sector)))
-  home-low (suc (suc h)) l b m k = absurd (omega (arith, home-two g e))
+  home-low (suc h) l b m k =
+      ap (λ (x : List ℕ). part x b m) (tag-store h l)
+      ∙ part-patch-before v (tagByte g (e .sector) + from (suc h)) (piece (suc h)) (region-fits (suc h) l) b m
+      (omega (arith, tag-high g R (e .sector), tag-sector g R (e .sector)))
 
   -- a byte outside data and tags
   pub home-outside : (h : ℕ) → h < homeCount g e → (b : ℕ) → Outside g b → getD (made v (homeStore g v e h)) b 0 ≡ getD v b 0
   home-outside zero l b o = getD-patch-other v (dataAt g (e .sector) * 512) (e .bytes) data-fits b (rw whole (o .contents (e .sector) low))
-  home-outside (suc zero) l b o =
-      ap (λ (x : List ℕ). getD x b 0) tag-store ∙ getD-patch-other v (tagByte g (e .sector)) (e .tag) tag-fits b (rw sized (o .tags (e .sector) low))
-  home-outside (suc (suc h)) l b o = absurd (omega (arith, home-two g e))
+  home-outside (suc h) l b o =
+      ap (λ (x : List ℕ). getD x b 0) (tag-store h l)
+      ∙ getD-patch-other v (tagByte g (e .sector) + from (suc h)) (piece (suc h)) (region-fits (suc h) l) b
+      (⊎-elim (λ q. inl (omega arith)) (λ q. inr (omega (arith, piece-fits (suc h) l))) (o .tags (e .sector) low))
+
+  -- what lies apart from the tag
+  home-aside : (h : ℕ) → suc h < homeCount g e → (b m : ℕ) → Apart b m (tagByte g (e .sector)) (g .width)
+      → part (made v (homeStore g v e (suc h))) b m ≡ part v b m
+  home-aside h l b m q =
+      ap (λ (x : List ℕ). part x b m) (tag-store h l)
+      ∙ part-apart v (tagByte g (e .sector) + from (suc h)) (piece (suc h)) b m (region-fits (suc h) l) (narrow q)
+    where
+      narrow : Apart b m (tagByte g (e .sector)) (g .width) → Apart b m (tagByte g (e .sector) + from (suc h)) (length (piece (suc h)))
+      narrow (before k) = before (omega arith)
+      narrow (behind k) = behind (omega (arith, piece-fits (suc h) l))
 
   -- the homes of other sectors
   pub home-frame : (h : ℕ) → h < homeCount g e → Frame (Home g tag v) (Home g tag (made v (homeStore g v e h))) (e .sector)
@@ -71,26 +111,58 @@ module _ (g : Layout) (R : Ranged g) (tag : Tag) (v : List ℕ) (room : needed g
     part-apart v (dataAt g (e .sector) * 512) (e .bytes) (dataAt g s * 512) 512 data-fits (rw whole (data-data g R s (e .sector) n)) ∙ p .0,
     part-apart v (dataAt g (e .sector) * 512) (e .bytes) (tagByte g s) (g .width) data-fits (rw whole (swap (data-tag g R (e .sector) s))) ∙ p .1,
   )
-  home-frame (suc zero) l s d n p = (
-    ap (λ (x : List ℕ). sectorAt x (dataAt g s)) tag-store
-        ∙ part-apart v (tagByte g (e .sector)) (e .tag) (dataAt g s * 512) 512 tag-fits (rw sized (data-tag g R s (e .sector))) ∙ p .0,
-    ap (λ (x : List ℕ). tagAt g x s) tag-store
-        ∙ part-apart v (tagByte g (e .sector)) (e .tag) (tagByte g s) (g .width) tag-fits (rw sized (tag-tag g R s (e .sector) n)) ∙ p .1,
+  home-frame (suc h) l s d n p = (
+    home-aside h l (dataAt g s * 512) 512 (data-tag g R s (e .sector)) ∙ p .0,
+    home-aside h l (tagByte g s) (g .width) (tag-tag g R s (e .sector) n) ∙ p .1,
   )
-  home-frame (suc (suc h)) l s d n p = absurd (omega (arith, home-two g e))
 
   pub home-data : sectorAt (made v (homeStore g v e 0)) (dataAt g (e .sector)) ≡ e .bytes
   home-data = part-patch-same v (dataAt g (e .sector) * 512) (e .bytes) data-fits 512 (sym whole)
 
-  -- data first, then the tag: the entry is at home
-  pub home-done : e .tag ≡ tag (e .sector) (e .bytes) → sectorAt v (dataAt g (e .sector)) ≡ e .bytes
-      → Home g tag (made v (homeStore g v e 1)) (e .sector) (e .bytes)
-  home-done t p = (
-    ap (λ (x : List ℕ). sectorAt x (dataAt g (e .sector))) tag-store
-        ∙ part-apart v (tagByte g (e .sector)) (e .tag) (dataAt g (e .sector) * 512) 512 tag-fits (rw sized (data-tag g R (e .sector) (e .sector))) ∙ p,
-    ap (λ (x : List ℕ). tagAt g x (e .sector)) tag-store
-        ∙ part-patch-same v (tagByte g (e .sector)) (e .tag) tag-fits (g .width) (sym sized) ∙ t,
-  )
+  -- the stores of the tag leave the data
+  pub data-stays : (h : ℕ) → suc h < homeCount g e → sectorAt (made v (homeStore g v e (suc h))) (dataAt g (e .sector)) ≡ sectorAt v (dataAt g (e .sector))
+  data-stays h l = home-aside h l (dataAt g (e .sector) * 512) 512 (data-tag g R (e .sector) (e .sector))
+
+  -- the first store of a tag: its bytes up to the end of the sector; of a tag that does not cross all
+  pub first-stands : crosses g (e .sector) ≡ true
+      → part (made v (homeStore g v e 1)) (tagByte g (e .sector)) (firstPart g (e .sector)) ≡ take (firstPart g (e .sector)) (e .tag)
+  first-stands c =
+      let q : tagByte g (e .sector) + 0 ≡ tagByte g (e .sector) = omega arith in
+      let l : 1 < homeCount g e = home-some g e in
+      let n : firstPart g (e .sector) ≡ length (piece 1) = omega (arith, length-take (firstPart g (e .sector)) (e .tag), crossing g R (e .sector) c) in
+      ap (λ (x : List ℕ). part x (tagByte g (e .sector)) (firstPart g (e .sector))) (tag-store 0 l ∙ ap (λ (x : ℕ). patch v x (piece 1)) q)
+      ∙ part-patch-same v (tagByte g (e .sector)) (piece 1) (omega (arith, region-fits 1 l)) (firstPart g (e .sector)) n
+
+  whole-piece : crosses g (e .sector) ≡ false → piece 1 ≡ e .tag
+  whole-piece c = take-all (firstPart g (e .sector)) (e .tag) (omega (arith, not-crossing g R (e .sector) c))
+
+  pub tag-in-one : crosses g (e .sector) ≡ false → tagAt g (made v (homeStore g v e 1)) (e .sector) ≡ e .tag
+  tag-in-one c =
+      let q : tagByte g (e .sector) + 0 ≡ tagByte g (e .sector) = omega arith in
+      let l : 1 < homeCount g e = home-some g e in
+      ap (λ (x : List ℕ). tagAt g x (e .sector)) (tag-store 0 l ∙ ap (λ (x : ℕ). patch v x (piece 1)) q ∙ ap (patch v (tagByte g (e .sector))) (whole-piece c))
+      ∙ part-patch-same v (tagByte g (e .sector)) (e .tag) (omega (arith, tag-end g R (e .sector) low)) (g .width) (sym sized)
+
+  -- the second, where the first stands
+  pub tag-in-two : crosses g (e .sector) ≡ true → part v (tagByte g (e .sector)) (firstPart g (e .sector)) ≡ take (firstPart g (e .sector)) (e .tag)
+      → tagAt g (made v (homeStore g v e 2)) (e .sector) ≡ e .tag
+  tag-in-two c q =
+      let l : 2 < homeCount g e = omega (arith, home-in-two g e c) in
+      let k = crossing g R (e .sector) c in
+      let n : length (piece 2) ≡ g .width - firstPart g (e .sector) = omega (arith, length-drop (firstPart g (e .sector)) (e .tag)) in
+      let sum : g .width ≡ firstPart g (e .sector) + length (piece 2) = omega arith in
+      let front : part (made v (homeStore g v e 2)) (tagByte g (e .sector)) (firstPart g (e .sector)) ≡ take (firstPart g (e .sector)) (e .tag) =
+      ap (λ (x : List ℕ). part x (tagByte g (e .sector)) (firstPart g (e .sector))) (tag-store 1 l)
+      ∙ part-patch-before v (tagByte g (e .sector) + firstPart g (e .sector)) (piece 2) (region-fits 2 l) (tagByte g (e .sector)) (firstPart g (e .sector)) (omega arith)
+      ∙ q in
+      let rest : part (made v (homeStore g v e 2)) (tagByte g (e .sector) + firstPart g (e .sector)) (length (piece 2)) ≡ piece 2 =
+      ap (λ (x : List ℕ). part x (tagByte g (e .sector) + firstPart g (e .sector)) (length (piece 2))) (tag-store 1 l)
+      ∙ part-patch-same v (tagByte g (e .sector) + firstPart g (e .sector)) (piece 2) (region-fits 2 l) (length (piece 2)) refl in
+      ap (part (made v (homeStore g v e 2)) (tagByte g (e .sector))) sum
+      ∙ part-add (made v (homeStore g v e 2)) (tagByte g (e .sector)) (firstPart g (e .sector)) (length (piece 2))
+      ∙ ap (λ (x : List ℕ). x ++ part (made v (homeStore g v e 2)) (tagByte g (e .sector) + firstPart g (e .sector)) (length (piece 2))) front
+      ∙ ap (λ (x : List ℕ). take (firstPart g (e .sector)) (e .tag) ++ x) rest
+      ∙ take-append-drop (firstPart g (e .sector)) (e .tag)
 
   pub home-front : (h : ℕ) → h < homeCount g e → front g (made v (homeStore g v e h)) ≡ front g v
   home-front h l = home-low h l (g .reserved * 512) ((base g - g .reserved) * 512) (omega arith)

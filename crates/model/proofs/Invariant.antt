@@ -5,17 +5,17 @@ use mathlib.Core.Path.{_≡_, sym, ap, _∙_, subst}
 use mathlib.Core.Logic.{_≢_, inl}
 use mathlib.Core.List.{List, [], _∷_}
 use native.Mathlib.Omega.{arith}
-use lib.ListN.{length, getD}
+use lib.ListN.{length, take, getD}
 use Rattle.octets.specs.Parts.{part}
 use Rattle.octets.specs.Sectors.{sectorAt}
 use Rattle.on_disk.specs.Superblock.{superblockOf, superblockAt}
-use Rattle.on_disk.specs.Layout.{perSector, layoutOk, entryCount, sectionSize, sectionAt, dataAt, needed}
+use Rattle.on_disk.specs.Layout.{perSector, layoutOk, entryCount, sectionSize, sectionAt, dataAt, tagByte, crosses, firstPart, needed}
 use Rattle.on_disk.specs.Section.{Entry, unused, entryOf}
 use Rattle.model.specs.Journal.{sealed, sectionOf, greatestId, wholeIds, usedOf, replay}
-use Rattle.model.specs.Tag.{Tag}
+use Rattle.model.specs.Tag.{Tag, tagAt}
 use Rattle.model.specs.Store.{homeStore, made, homeCount}
 use Rattle.model.specs.State.{volumeLoanOk}
-use Rattle.model.proofs.Plans.{At, home-some, home-two}
+use Rattle.model.proofs.Plans.{At, Homing, inOne, inTwo, homing, home-in-two, home-most, home-some, home-crosses}
 use Rattle.model.specs.Ledger.{Write, Contents, Ledger}
 use Rattle.model.specs.Medium.{Medium, volumeIn}
 use Rattle.model.specs.World.{Live, off, on}
@@ -24,7 +24,7 @@ use Rattle.model.proofs.Journals.{every-replay, Every, writes, writeOfE
 use Rattle.on_disk.proofs.Addresses.{Ranged, data-high, tag-high, tag-sector}
 use Rattle.model.proofs.Volumes.{part-bytes}
 use Rattle.model.specs.Guarantees.{Outside}
-use Rattle.model.proofs.Homes.{Home, home-length, home-outside, home-frame, home-data, home-done, home-front}
+use Rattle.model.proofs.Homes.{Home, home-length, home-outside, home-frame, home-data, data-stays, first-stands, tag-in-one, tag-in-two, home-front}
 use Rattle.on_disk.specs.declared.Layout.{Layout}
 use Rattle.model.specs.declared.Phase.{Phase}
 use Rattle.model.specs.declared.Phase.the-variants.{Filling, Committing, WritingBack, Recovering}
@@ -109,12 +109,17 @@ module _ (tag : Tag) (g : Layout) (v₀ : List ℕ) where
     pub torn : Torn u st m j v
     pub here : (i : ℕ) → i < j → sectorAt v (slot m + i) ≡ sealed g st m i
 
-  -- i entries of L are home; with h 1 the data of the next is, too
+  -- i entries of L are home; with h 1 the data of the next is, too, and with h 2 the first part of its tag
+  abbrev pub DataHome : List ℕ → Write → Type 0
+  DataHome v x = sectorAt v (dataAt g (x .sector)) ≡ x .bytes
+
+  abbrev pub TagBegun : List ℕ → Write → Type 0
+  TagBegun v x = part v (tagByte g (x .sector)) (firstPart g (x .sector)) ≡ take (firstPart g (x .sector)) (tag (x .sector) (x .bytes))
+
   abbrev pub Progress : List ℕ → Contents → List Write → ℕ → ℕ → Type 0
   Progress v c L i zero = Pass (g .provided) (Home g tag v) c L i
-  Progress v c L i (suc h) =
-      Midway (g .provided) (Home g tag v) c L i
-      × (sectorAt v (dataAt g (getD L i noWrite .sector)) ≡ getD L i noWrite .bytes)
+  Progress v c L i (suc zero) = Midway (g .provided) (Home g tag v) c L i × DataHome v (getD L i noWrite)
+  Progress v c L i (suc (suc h)) = Midway (g .provided) (Home g tag v) c L i × (DataHome v (getD L i noWrite) × TagBegun v (getD L i noWrite))
 
   pub record AtHome (v : List ℕ) (l : Ledger) (n m i h : ℕ) (st : List ℕ) : Type 0 where
     pub staged : Staged st n
@@ -122,7 +127,7 @@ module _ (tag : Tag) (g : Layout) (v₀ : List ℕ) where
     pub toCome : l .toCome ≡ []
     pub next : m ≡ greatestId g v + 1
     pub place : i < n
-    pub half : h < homeCount g (entryOf (g .width) st i)
+    pub store : h < homeCount g (entryOf (g .width) st i)
     pub within : (s : ℕ) → mentions (batchOf (g .width) st n) s ≡ true → mentions (writes (replay g v)) s ≡ true
     pub progress : Progress v (l .contents) (batchOf (g .width) st n) i h
 
@@ -203,19 +208,36 @@ module _ (tag : Tag) (g : Layout) (v₀ : List ℕ) (X : Premises tag g v₀) (v
       subst (λ (n : ℕ). Frame (Home g tag v) (Home g tag (w h)) n) (sym (ap (λ (x : Write). x .sector) q))
       (home-frame g (X .ranged) tag v room e (G .low) (G .whole) tagged h l)
 
-  -- the next store of the pass
-  pub half-way : (L : List Write) (i : ℕ) → i < length L → getD L i noWrite ≡ writeOfEntry e
+  -- the next store of the pass: the data,
+  pub data-next : (L : List Write) (i : ℕ) → i < length L → getD L i noWrite ≡ writeOfEntry e
       → Progress tag g v₀ v c L i 0 → Progress tag g v₀ (w 0) c L i 1
-  half-way L i l q p = (
-    mid-touch (g .provided) (frame-at L i q 0 (omega (arith, home-two g e))) (pass-begins (g .provided) l p),
+  data-next L i l q p = (
+    mid-touch (g .provided) (frame-at L i q 0 (omega (arith, home-some g e))) (pass-begins (g .provided) l p),
     rw q (home-data g (X .ranged) tag v room e (G .low) (G .whole) tagged),
   )
 
-  pub all-way : (L : List Write) (i : ℕ) → getD L i noWrite ≡ writeOfEntry e
-      → Progress tag g v₀ v c L i 1 → Progress tag g v₀ (w 1) c L (suc i) 0
-  all-way L i q p =
-      mid-ends (g .provided) (frame-at L i q 1 (omega (arith, home-two g e)))
-      (rw q (home-done g (X .ranged) tag v room e (G .low) (G .whole) tagged (G .fit) (rw q at (p .1)))) (p .0)
+  -- what a store of the tag leaves of the data
+  data-kept : (L : List Write) (i : ℕ) → getD L i noWrite ≡ writeOfEntry e → (h : ℕ) → suc h < homeCount g e
+      → DataHome tag g v₀ v (getD L i noWrite) → sectorAt (w (suc h)) (dataAt g (e .sector)) ≡ e .bytes
+  data-kept L i q h l p = data-stays g (X .ranged) tag v room e (G .low) (G .whole) tagged h l ∙ (rw q at p)
+
+  -- the first part of a tag that crosses,
+  pub first-next : (L : List Write) (i : ℕ) → getD L i noWrite ≡ writeOfEntry e → crosses g (e .sector) ≡ true
+      → Progress tag g v₀ v c L i 1 → Progress tag g v₀ (w 1) c L i 2
+  first-next L i q x p = (
+    mid-touch (g .provided) (frame-at L i q 1 (home-some g e)) (p .0),
+    (
+      rw q (data-kept L i q 0 (home-some g e) (p .1)),
+      rw (q, ← G .fit) (first-stands g (X .ranged) tag v room e (G .low) (G .whole) tagged x),
+    ),
+  )
+
+  -- and the last store, with which the entry is home
+  pub last-next : (L : List Write) (i : ℕ) → getD L i noWrite ≡ writeOfEntry e → (h : ℕ) → suc h < homeCount g e
+      → tagAt g (w (suc h)) (e .sector) ≡ e .tag → DataHome tag g v₀ v (getD L i noWrite)
+      → Midway (g .provided) (Home g tag v) c L i → Progress tag g v₀ (w (suc h)) c L (suc i) 0
+  last-next L i q h l t d p =
+      mid-ends (g .provided) (frame-at L i q (suc h) l) (rw q (data-kept L i q h l d, t ∙ G .fit)) p
 
   -- one store further: of the same entry, or the entry is home
   pub data Advance (L : List Write) (i h : ℕ) : Type 0 where
@@ -224,6 +246,16 @@ module _ (tag : Tag) (g : Layout) (v₀ : List ℕ) (X : Premises tag g v₀) (v
 
   pub advance : (L : List Write) (i : ℕ) → i < length L → getD L i noWrite ≡ writeOfEntry e → (h : ℕ) → h < homeCount g e
       → Progress tag g v₀ v c L i h → Advance L i h
-  advance L i l q zero b p = further (omega (arith, home-some g e)) (half-way L i l q p)
-  advance L i l q (suc zero) b p = arrived (omega (arith, home-two g e)) (all-way L i q p)
-  advance L i l q (suc (suc h)) b p = absurd (omega (arith, home-two g e))
+  advance L i l q zero b p = further (omega (arith, home-some g e)) (data-next L i l q p)
+  advance L i l q (suc zero) b p = go (homing g e)
+    where
+      go : Homing g e → Advance L i 1
+      go (inOne x n) =
+          arrived (omega arith) (last-next L i q 0 b (tag-in-one g (X .ranged) tag v room e (G .low) (G .whole) tagged x) (p .1) (p .0))
+      go (inTwo x n) = further (omega arith) (first-next L i q x p)
+  advance L i l q (suc (suc zero)) b p =
+      let x : crosses g (e .sector) ≡ true = home-crosses g e b in
+      let begun = rw (q, ← G .fit) at (p .1 .1) in
+      arrived (omega (arith, home-in-two g e x))
+      (last-next L i q 1 b (tag-in-two g (X .ranged) tag v room e (G .low) (G .whole) tagged x begun) (p .1 .0) (p .0))
+  advance L i l q (suc (suc (suc h))) b p = absurd (omega (arith, home-most g e))

@@ -10,7 +10,7 @@ use Rattle.on_disk.specs.declared.Layout.{Layout}
 use Rattle.on_disk.specs.Superblock.{superblockAt, layoutIn}
 use Rattle.model.specs.declared.State.{State}
 use Rattle.model.specs.Tag.{hmacTagOf}
-use Rattle.model.specs.State.{Verdict, passed, volumeLoanOk, stateOk, volumeOk, stagingOk, sectorOk}
+use Rattle.model.specs.State.{Verdict, passed, volumeLoanOk, stateOk, volumeOk, stagingOk, stagedOk, sectorOk}
 use Rattle.model.specs.Format.{FormatResult, formatRows, formatBy, formatOf}
 use Rattle.model.specs.Open.{OpenResult, openRows, replayVerdict, openBy, openWith}
 use Rattle.model.specs.Write.{WriteResult, writeRows, writeBy, writeOf}
@@ -85,8 +85,8 @@ refused key e = record { format = formats; opening = opens; write = writes; read
 
     reads : (s : State) (v st : List ℕ) (n : ℕ) (loan : List ℕ)
         → readKeyedOf key s v st n loan
-        ≡ record { answer = keyRefusal (stateOk s && (volumeOk s v && (stagingOk (s .layout) st && sectorOk loan))); sector = loan }
-    reads s v st n loan = ap by (without-key key e (readRows (hmacTagOf key) s v st n loan) passed) ∙ cases (stateOk s && (volumeOk s v && (stagingOk (s .layout) st && sectorOk loan)))
+        ≡ record { answer = keyRefusal (stateOk s && (volumeOk s v && (stagedOk s st && sectorOk loan))); sector = loan }
+    reads s v st n loan = ap by (without-key key e (readRows (hmacTagOf key) s v st n loan) passed) ∙ cases (stateOk s && (volumeOk s v && (stagedOk s st && sectorOk loan)))
       where
         by : Verdict → ReadResult
         by = readBy (hmacTagOf key) s v st n loan

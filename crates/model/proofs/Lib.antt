@@ -25,6 +25,7 @@ pub mod Verify
 pub mod WrongKey
 pub mod FirstRule
 pub mod NextStore
+pub mod TagStores
 pub mod Refusals
 pub mod Reserved
 pub mod CommitStores

@@ -6,31 +6,33 @@ use mathlib.Core.Path.{_≡_, refl, sym, _∙_, subst}
 use native.Mathlib.Nat.{mod-lt}
 use native.Mathlib.Omega.{arith}
 use lib.Dec.{leb, ltb}
-use lib.ListN.{length}
+use lib.ListN.{length, take, drop, length-take, length-drop}
 use borrow.Author.Tests.{leb-false}
 use Rattle.octets.specs.Answer.{Refusal, refused, refusal, refuse}
 use Rattle.octets.specs.Choice.{firstMet}
 use Rattle.octets.specs.Sectors.{sectorAt}
 use Rattle.octets.proofs.Parts.{length-part, length-patch}
+use Rattle.octets.specs.Parts.{patch}
 use Rattle.on_disk.specs.declared.Layout.{Layout}
 use Rattle.model.specs.declared.Phase.{Phase}
 use Rattle.model.specs.declared.Phase.the-variants.{Filling, Committing, WritingBack, Recovering}
 use Rattle.model.specs.declared.State.{State}
-use Rattle.on_disk.specs.Layout.{sectionSize, tagSector, tagOffset, needed}
+use Rattle.on_disk.specs.Layout.{sectionSize, base, tagSector, tagOffset, firstPart, needed}
 use Rattle.on_disk.specs.Section.{Entry}
 use Rattle.model.specs.Journal.{sectionFor, replay}
-use Rattle.model.specs.Store.{afterEffect, contentOf, homeStore, storeOf, RecoveryStep, storing, recoveryStepAt}
-use Rattle.model.specs.State.{passed, stateOk, volumeOk, stagingOk, sectorOk}
+use Rattle.model.specs.Store.{afterEffect, contentOf, homeCount, homeStore, storeOf, RecoveryStep, storing, recoveryStepAt}
+use Rattle.model.specs.State.{passed, stateOk, volumeOk, stagedOk, sectorOk}
 use Rattle.model.specs.Step.{recoveryRow, rangeRows, phaseStep, stepBy, stepOf}
 use Rattle.model.specs.JournalStep.{stagedEntry, commitStore, commitStep, homeStep, recoverAt}
 use Rattle.model.specs.StepResult.{StepResult}
 use Rattle.model.specs.NextStore.{nextStoreOf, storeNamed, Placed, Within, sectorNamed, sectorStored, StepStores}
-use Rattle.on_disk.proofs.Addresses.{and-both, Ranged, ranged, data-high, tag-high, data-room, tag-room, tag-inside, section-low, base-room}
+use Rattle.on_disk.proofs.Addresses.{and-both, Ranged, ranged, data-high, tag-high, data-room, tag-offset, tag-room, next-room, section-low, base-room}
 use Rattle.on_disk.proofs.Sections.{bytes-length, tag-length}
 use Rattle.model.proofs.Journals.{length-sealed}
 use Rattle.model.proofs.Replays.{Which, isTrue, isFalse, which}
 use Rattle.model.proofs.Entries.{Complete, replay-complete, StepFor, step-every}
-use Rattle.model.proofs.States.{state-layout, staging-length, state-committing, state-writing-back, volume-room, volume-replay}
+use Rattle.model.proofs.Plans.{home-crosses}
+use Rattle.model.proofs.States.{state-layout, staged-length, staged-store, state-committing, state-writing-back, volume-room, volume-replay}
 
 -- ---- a store of a step lies in the layout
 
@@ -44,7 +46,7 @@ module _ (s : State) (v st : List ℕ) where
   refusing : (r : Refusal ℕ) → Stores (stepBy s v st (refused r))
   refusing r = record { within = tt; sector = refl; made = λ out. refl }
 
-  module _ (sound : stateOk s ≡ true) (fits : volumeOk s v ≡ true) (staging : stagingOk (s .layout) st ≡ true) where
+  module _ (sound : stateOk s ≡ true) (fits : volumeOk s v ≡ true) (staging : stagedOk s st ≡ true) where
     abbrev g : Layout
     g = s .layout
 
@@ -55,7 +57,7 @@ module _ (s : State) (v st : List ℕ) where
     room = volume-room s v fits
 
     staged : length st ≡ sectionSize (g .width) * 512
-    staged = staging-length g st staging
+    staged = staged-length s st staging
 
     committing : (j : ℕ) → s .phase ≡ Committing j → Stores (commitStep s v st j)
     unfolding commitStep
@@ -81,28 +83,34 @@ module _ (s : State) (v st : List ℕ) where
         go (isFalse e) = rw e (record { within = placed; sector = refl; made = λ out. refl })
 
     module _ (e : Entry) (low : e .sector < g .provided) (whole : length (e .bytes) ≡ 512) (sized : length (e .tag) ≡ g .width) where
-      home-placed : (h : ℕ) → Placed g v (homeStore g v e h)
-      home-placed zero =
+      -- a sector with some bytes of the tag replaced
+      tag-placed : (a off : ℕ) (x : List ℕ) → base g ≤ a → a + 1 ≤ needed g → off + length x ≤ 512
+          → Placed g v (record { at = a; content = patch (sectorAt v a) off x })
+      tag-placed a off x low high fit =
+          let sector : length (sectorAt v a) ≡ 512 = length-part v (a * 512) 512 (omega (arith, high, room)) in
+          record { behind = omega arith; inside = omega arith; lent = room; whole = length-patch (sectorAt v a) off x (omega arith) ∙ sector }
+
+      home-placed : (h : ℕ) → h < homeCount g e → Placed g v (homeStore g v e h)
+      home-placed zero l =
           record {
             behind = omega (arith, data-high g R (e .sector));
             inside = omega (arith, data-room g R (e .sector) low);
             lent = room;
             whole = whole;
           }
-      home-placed (suc h) =
-          let high = tag-room g R (e .sector) low in
-          let sector : length (sectorAt v (tagSector g (e .sector))) ≡ 512 = length-part v (tagSector g (e .sector) * 512) 512 (omega (arith, high, room)) in
-          record {
-            behind = omega (arith, tag-high g R (e .sector));
-            inside = omega (arith, high);
-            lent = room;
-            whole = length-patch (sectorAt v (tagSector g (e .sector))) (tagOffset g (e .sector)) (e .tag) (omega (arith, tag-inside g R (e .sector), sized, sector)) ∙ sector;
-          }
+      home-placed (suc zero) l =
+          tag-placed (tagSector g (e .sector)) (tagOffset g (e .sector)) (take (firstPart g (e .sector)) (e .tag))
+          (tag-high g R (e .sector)) (tag-room g R (e .sector) low)
+          (omega (arith, length-take (firstPart g (e .sector)) (e .tag), tag-offset g R (e .sector)))
+      home-placed (suc (suc h)) l =
+          tag-placed (tagSector g (e .sector) + 1) 0 (drop (firstPart g (e .sector)) (e .tag))
+          (omega (arith, tag-high g R (e .sector))) (omega (arith, next-room g R (e .sector) low (home-crosses g e (omega arith))))
+          (omega (arith, length-drop (firstPart g (e .sector)) (e .tag), R .t .bound))
 
-      bringing : (h : ℕ) (last : Bool) (p : Phase) (left : List ℕ) → Stores (homeStep s v st e h last p left)
+      bringing : (h : ℕ) → h < homeCount g e → (last : Bool) (p : Phase) (left : List ℕ) → Stores (homeStep s v st e h last p left)
       unfolding homeStep
-      bringing h true p left = record { within = home-placed h; sector = refl; made = λ out. refl }
-      bringing h false p left = record { within = home-placed h; sector = refl; made = λ out. refl }
+      bringing h l true p left = record { within = home-placed h l; sector = refl; made = λ out. refl }
+      bringing h l false p left = record { within = home-placed h l; sector = refl; made = λ out. refl }
 
     -- a phase with a row, and what its step does where that is not met
     by-row : (b : Bool) (r : Refusal ℕ) → (b ≡ false → Stores (phaseStep s v st (s .phase))) → Stores (stepBy s v st (firstMet ((b, refused r) ∷ []) passed))
@@ -118,14 +126,14 @@ module _ (s : State) (v st : List ℕ) where
         by-row (leb (g .provided) (stagedEntry s st i .sector)) (refusal 6 (i ∷ []))
         (λ n. at-phase (WritingBack i h) q
         (bringing (stagedEntry s st i) (leb-false (g .provided) (stagedEntry s st i .sector) n)
-        (bytes-length (g .width) i (R .t .bound) i-low st staged) (tag-length (g .width) i (R .t .bound) i-low st staged) h _ _ _))
+        (bytes-length (g .width) i (R .t .bound) i-low st staged) (tag-length (g .width) i (R .t .bound) i-low st staged) h (staged-store s st staging i h q) _ _ _))
 
     recovering : (k : ℕ) → s .phase ≡ Recovering k → (p : RecoveryStep) → recoveryStepAt g v k ≡ p → StepFor g (Complete g) p → Stores (stepBy s v st (firstMet (recoveryRow g p ∷ []) passed))
     recovering k q (storing (storeOf x h)) e c =
         by-row (leb (g .provided) (x .entry .sector)) (refusal 6 (x .section ∷ x .index ∷ []))
         (λ n. at-phase (Recovering k) q
         (subst (λ (y : RecoveryStep). Stores (recoverAt s v st k y)) (sym e)
-        (bringing (x .entry) (leb-false (g .provided) (x .entry .sector) n) (c .0 .whole) (c .0 .sized) h _ _ _)))
+        (bringing (x .entry) (leb-false (g .provided) (x .entry .sector) n) (c .0 .whole) (c .0 .sized) h (c .1) _ _ _)))
 
     by-phase : (p : Phase) → s .phase ≡ p → Stores (stepBy s v st (firstMet (rangeRows s v st p) passed))
     by-phase Filling q = at-phase Filling q (record { within = tt; sector = refl; made = λ out. refl })
@@ -136,9 +144,9 @@ module _ (s : State) (v st : List ℕ) where
 
   stores : Stores (stepOf s v st)
   unfolding stepOf
-  stores = go (which (stateOk s && (volumeOk s v && stagingOk (s .layout) st)))
+  stores = go (which (stateOk s && (volumeOk s v && stagedOk s st)))
     where
-      go : Which (stateOk s && (volumeOk s v && stagingOk (s .layout) st)) → Stores (stepOf s v st)
+      go : Which (stateOk s && (volumeOk s v && stagedOk s st)) → Stores (stepOf s v st)
       go (isFalse e) = rw e (refusing (refusal 1 []))
       go (isTrue e) =
           let a = and-both (stateOk s) _ e in

@@ -1,11 +1,13 @@
 -- The stores of a replay, and the steps of a recovery: which entry each is of, and which of its stores.
 use Prim.Native.Nat.{ℕ, suc, _+_, _≤_, _<_}
+use mathlib.Core.Bool.{Bool, true, false}
 use mathlib.Core.Path.{_≡_, refl, ap, _∙_}
 use mathlib.Core.List.{List, [], _∷_}
 use native.Mathlib.Omega.{arith}
 use lib.ListN.{length, getD, length-append, length-map, List·getD-append, List·getD-map}
 use lib.Seq.{getD-append-add}
 use Rattle.octets.proofs.Tables.{length-tabulate, getD-tabulate}
+use Rattle.on_disk.specs.Layout.{crosses}
 use Rattle.on_disk.specs.Section.{Entry}
 use Rattle.model.specs.Journal.{Replayed}
 use Rattle.model.specs.Store.{mostHomeStores, homeCount, storeOf, storesOfEntry, entryStores, storesOf, storing, recoverySteps, stepsOf, noEntry, noStore}
@@ -27,9 +29,9 @@ module _ (g : Layout) where
   at-low (here e l) = omega arith
   at-low (there j e a) = omega (arith, at-low a)
 
-  pub at-half : {xs : List Replayed} {k i h : ℕ} → At g xs k i h → h < homeCount g (getD xs i noEntry .entry)
-  at-half (here e l) = l
-  at-half (there j e a) = at-half a
+  pub at-below : {xs : List Replayed} {k i h : ℕ} → At g xs k i h → h < homeCount g (getD xs i noEntry .entry)
+  at-below (here e l) = l
+  at-below (there j e a) = at-below a
 
   at-store : {xs : List Replayed} {k i h : ℕ} → At g xs k i h → getD (entryStores g xs) k noStore ≡ storeOf (getD xs i noEntry) h
   at-store {k = k} (here {x} {xs} {h = h} e l) =
@@ -90,16 +92,46 @@ module _ (g : Layout) where
   pub at-in : {xs : List Replayed} {k i h : ℕ} → At g xs k i h → k < stepsOf g xs
   at-in {xs} a = omega (arith, steps-stores g xs, stores-in g a)
 
-pub home-two : (g : Layout) (e : Entry) → homeCount g e ≡ 2
-unfolding homeCount
-home-two g e = refl
+-- ---- how many stores bring an entry home
 
-pub home-most : (g : Layout) (e : Entry) → homeCount g e ≤ mostHomeStores
-home-most g e = omega (arith, home-two g e)
+module _ (g : Layout) (e : Entry) where
+  pub home-in-one : crosses g (e .sector) ≡ false → homeCount g e ≡ 2
+  unfolding homeCount
+  home-in-one q = rw q
 
--- every entry has them all
-pub home-all : (g : Layout) (e : Entry) (h : ℕ) → h < mostHomeStores → h < homeCount g e
-home-all g e h l = omega (arith, home-two g e)
+  pub home-in-two : crosses g (e .sector) ≡ true → homeCount g e ≡ 3
+  unfolding homeCount
+  home-in-two q = rw q
 
-pub home-some : (g : Layout) (e : Entry) → 1 < homeCount g e
-home-some g e = omega (arith, home-two g e)
+  -- which of the two
+  pub data Homing : Type 0 where
+    inOne : crosses g (e .sector) ≡ false → homeCount g e ≡ 2 → Homing
+    inTwo : crosses g (e .sector) ≡ true → homeCount g e ≡ 3 → Homing
+
+  pub homing : Homing
+  homing = go (crosses g (e .sector)) refl
+    where
+      go : (b : Bool) → crosses g (e .sector) ≡ b → Homing
+      go true q = inTwo q (home-in-two q)
+      go false q = inOne q (home-in-one q)
+
+  pub home-most : homeCount g e ≤ mostHomeStores
+  home-most = go homing
+    where
+      go : Homing → homeCount g e ≤ mostHomeStores
+      go (inOne q n) = omega arith
+      go (inTwo q n) = omega arith
+
+  pub home-some : 1 < homeCount g e
+  home-some = go homing
+    where
+      go : Homing → 1 < homeCount g e
+      go (inOne q n) = omega arith
+      go (inTwo q n) = omega arith
+
+  pub home-crosses : 2 < homeCount g e → crosses g (e .sector) ≡ true
+  home-crosses l = go homing
+    where
+      go : Homing → crosses g (e .sector) ≡ true
+      go (inOne q n) = absurd (omega arith)
+      go (inTwo q n) = q

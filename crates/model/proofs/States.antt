@@ -15,8 +15,9 @@ use Rattle.model.specs.declared.Phase.the-variants.{Committing, WritingB
 use Rattle.model.specs.declared.State.{State}
 use Rattle.on_disk.specs.Layout.{entryCount, sectionSize, needed, layoutOk}
 use Rattle.model.specs.Journal.{replay}
-use Rattle.model.specs.Store.{mostHomeStores, stepsOf}
-use Rattle.model.specs.State.{lastId, placeOk, stateOk, stagingOk, volumeLoanOk, volumeOk, replayOk}
+use Rattle.model.specs.Store.{mostHomeStores, homeCount, stepsOf}
+use Rattle.on_disk.specs.Section.{entryOf}
+use Rattle.model.specs.State.{lastId, placeOk, stateOk, stagingOk, storeOk, stagedOk, volumeLoanOk, volumeOk, replayOk}
 
 pub place-committing : (g : Layout) (count id size : ℕ) (p : Phase) (j : ℕ) → size ≡ sectionSize (g .width) → p ≡ Committing j
     → ltb j size && (ltb 0 count && ltb id lastId) ≡ placeOk g count id p
@@ -43,6 +44,33 @@ state-layout s e = front (layoutOk (s .layout)) _ e
 pub staging-length : (g : Layout) (st : List ℕ) → stagingOk g st ≡ true → length st ≡ sectionSize (g .width) * 512
 unfolding stagingOk
 staging-length g st e = eqb-true (length st) (sectionSize (g .width) * 512) e
+
+pub staged-lent : (s : State) (st : List ℕ) → stagedOk s st ≡ true → stagingOk (s .layout) st ≡ true
+unfolding stagedOk
+staged-lent s st e = and-both (stagingOk (s .layout) st) _ e .0
+
+pub staged-length : (s : State) (st : List ℕ) → stagedOk s st ≡ true → length st ≡ sectionSize (s .layout .width) * 512
+staged-length s st e = staging-length (s .layout) st (staged-lent s st e)
+
+-- the entry at hand has the store
+pub staged-store : (s : State) (st : List ℕ) → stagedOk s st ≡ true → (i h : ℕ) → s .phase ≡ WritingBack i h
+    → h < homeCount (s .layout) (entryOf (s .layout .width) st i)
+unfolding stagedOk
+staged-store s st e i h q =
+    ltb-true h (homeCount (s .layout) (entryOf (s .layout .width) st i))
+    (ap (storeOk (s .layout) st) (sym q) ∙ and-both (stagingOk (s .layout) st) _ e .1)
+
+pub staged-unfit : (s : State) (st : List ℕ) → stagingOk (s .layout) st ≡ false → false ≡ stagedOk s st
+unfolding stagedOk
+staged-unfit s st e = rw e
+
+pub staged-fit : (s : State) (st : List ℕ) (r : Bool) → stagingOk (s .layout) st ≡ true → r ≡ storeOk (s .layout) st (s .phase) → r ≡ stagedOk s st
+unfolding stagedOk
+staged-fit s st r e q = rw (e, q)
+
+-- the same by the phase
+pub staged-in : (s : State) (st : List ℕ) (p : Phase) → s .phase ≡ p → stagingOk (s .layout) st ≡ true → storeOk (s .layout) st p ≡ true → stagedOk s st ≡ true
+staged-in s st p q a b = sym (staged-fit s st true a (sym (ap (storeOk (s .layout) st) q ∙ b)))
 
 pub state-count : (s : State) → stateOk s ≡ true → s .count ≤ entryCount (s .layout .width)
 unfolding stateOk

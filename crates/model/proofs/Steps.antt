@@ -18,7 +18,7 @@ use Rattle.model.specs.Journal.{sealed, greatestId, Replayed, replay}
 use Rattle.model.specs.Tag.{Tag}
 use Rattle.model.specs.Store.{one, afterEffect, homeStore, made, stepsOf, homeCount, mostHomeStores, noEntry}
 use Rattle.octets.proofs.Choice.{Unmet, passes}
-use Rattle.model.specs.State.{passed, isFilling, volumeLoanOk, placeOk, replayOk, stateOk, volumeOk, stagingOk, inPhase}
+use Rattle.model.specs.State.{passed, isFilling, volumeLoanOk, placeOk, replayOk, stateOk, volumeOk, stagingOk, storeOk, stagedOk, inPhase}
 use Rattle.model.specs.Step.{rangeRows, stepRows, phaseStep, stepBy, stepOf}
 use Rattle.model.specs.JournalStep.{commitSteps, commitStep, homeStep, writeBackStep, recoverStep}
 use Rattle.model.specs.StepResult.{StepResult}
@@ -29,7 +29,7 @@ use Rattle.model.specs.World.{Live, off, on, World, Happened, byStep}
 use Rattle.model.proofs.Replays.{mentions, mentions-get, Pass, pass-ends, noWrite}
 use Rattle.model.proofs.Journals.{every-get, writes, length-writes, writeOfEntry, batchOf}
 use Rattle.model.proofs.Homes.{Home}
-use Rattle.model.proofs.Plans.{At, at-low, at-half, at-get, at-on, at-next, at-last, at-in, home-some, home-most}
+use Rattle.model.proofs.Plans.{At, at-low, at-below, at-get, at-on, at-next, at-last, at-in, home-some, home-most}
 use Rattle.model.proofs.Invariant.{Premises, replay-goods, stateAt, Good, Disk, Staged, Progress, AtFilling, AtCommit, AtHome, AtRecover, Lives, working, inFilling, inCommitting, inWritingBack, inRecovering, disk-home, Advance, further, arrived, advance, replays, tops}
 use Rattle.on_disk.proofs.Sections.{length-empty, empty-unused}
 use Rattle.model.proofs.Committing.{commit-goes, seal-disk, seal-ends}
@@ -88,7 +88,11 @@ module _ (tag : Tag) (g : Layout) (v₀ : List ℕ) (X : Premises tag g v₀) wh
   unfolding stagingOk
   sound-staging st e = eq-eqb (length st) (sectionSize (g .width) * 512) e
 
-  step-runs : (n m : ℕ) (p : Phase) (v st : List ℕ) → stateOk (stateAt g n m p) ≡ true → volumeOk (stateAt g n m p) v ≡ true → stagingOk g st ≡ true
+  pub sound-staged : (st : List ℕ) (n m : ℕ) (p : Phase) → length st ≡ sectionSize (g .width) * 512 → storeOk g st p ≡ true → stagedOk (stateAt g n m p) st ≡ true
+  unfolding stagedOk
+  sound-staged st n m p z e = rw (sound-staging st z, e)
+
+  step-runs : (n m : ℕ) (p : Phase) (v st : List ℕ) → stateOk (stateAt g n m p) ≡ true → volumeOk (stateAt g n m p) v ≡ true → stagedOk (stateAt g n m p) st ≡ true
       → Unmet (rangeRows (stateAt g n m p) v st p) → stepOf (stateAt g n m p) v st ≡ phaseStep (stateAt g n m p) v st p
   unfolding stepOf
   step-runs n m p v st a b c u = ap (stepBy (stateAt g n m p) v st) (passes (stepRows (stateAt g n m p) v st) passed (rw (a, b, c), u))
@@ -215,15 +219,15 @@ module _ (tag : Tag) (g : Layout) (v₀ : List ℕ) (X : Premises tag g v₀) wh
           (subst (StepLeads d l) (sym (home-stored (stateAt g n m (WritingBack i h)) v st e h (WritingBack i (h + 1)) (emptySection (g .width))))
           (rw (still l (A .toCome))
           (record {
-            lives = working n m (WritingBack i (h + 1)) st (inWritingBack (disk-now h (A .half))
+            lives = working n m (WritingBack i (h + 1)) st (inWritingBack (disk-now h (A .store))
                 (record {
                   staged = A .staged;
                   empty = A .empty;
                   toCome = A .toCome;
-                  next = next-now h (A .half);
+                  next = next-now h (A .store);
                   place = A .place;
-                  half = b;
-                  within = within-now h (A .half);
+                  store = b;
+                  within = within-now h (A .store);
                   progress = p;
                 }));
             fills = λ q. never q;
@@ -236,12 +240,12 @@ module _ (tag : Tag) (g : Layout) (v₀ : List ℕ) (X : Premises tag g v₀) wh
               (subst (StepLeads d l) (sym (home-filled (stateAt g n m (WritingBack i h)) v st e h (WritingBack (i + 1) 0) (emptySection (g .width))))
               (rw (still l (A .toCome))
               (record {
-                lives = working 0 m Filling (emptySection (g .width)) (inFilling (disk-now h (A .half))
+                lives = working 0 m Filling (emptySection (g .width)) (inFilling (disk-now h (A .store))
                     (record {
                       staged = staged-empty;
                       batch = sym (A .empty);
                       toCome = A .toCome;
-                      next = next-now h (A .half);
+                      next = next-now h (A .store);
                       clean = pass-ends (g .provided)
                           (subst (Pass (g .provided) (Home g tag (w h)) (l .contents) L) (sym (length-batch (g .width) st n ∙ sym q ∙ add-one i)) p);
                     }));
@@ -252,15 +256,15 @@ module _ (tag : Tag) (g : Layout) (v₀ : List ℕ) (X : Premises tag g v₀) wh
               (subst (StepLeads d l) (sym (home-stored (stateAt g n m (WritingBack i h)) v st e h (WritingBack (i + 1) 0) (emptySection (g .width))))
               (rw (still l (A .toCome))
               (record {
-                lives = working n m (WritingBack (i + 1) 0) st (inWritingBack {i = i + 1} {h = 0} (disk-now h (A .half))
+                lives = working n m (WritingBack (i + 1) 0) st (inWritingBack {i = i + 1} {h = 0} (disk-now h (A .store))
                     (record {
                       staged = A .staged;
                       empty = A .empty;
                       toCome = A .toCome;
-                      next = next-now h (A .half);
+                      next = next-now h (A .store);
                       place = omega (arith, A .place);
-                      half = omega (arith, home-some g (entryOf (g .width) st (i + 1)));
-                      within = within-now h (A .half);
+                      store = omega (arith, home-some g (entryOf (g .width) st (i + 1)));
+                      within = within-now h (A .store);
                       progress = subst (Pass (g .provided) (Home g tag (w h)) (l .contents) L) (sym (add-one i)) p;
                     }));
                 fills = λ q. never q;
@@ -269,7 +273,7 @@ module _ (tag : Tag) (g : Layout) (v₀ : List ℕ) (X : Premises tag g v₀) wh
     step-home : (n m i h : ℕ) (st : List ℕ) → AtHome tag g v₀ v l n m i h st → StepLeads d l (writeBackStep (stateAt g n m (WritingBack i h)) v st i h)
     step-home n m i h st A =
         advanced n m i h st A
-        (advance tag g v₀ X v (l .contents) D (entryOf (g .width) st i) (G n m i h st A) (batchOf (g .width) st n) i (in-L n m i h st A) (got n m i h st A) h (A .half) (A .progress))
+        (advance tag g v₀ X v (l .contents) D (entryOf (g .width) st i) (G n m i h st A) (batchOf (g .width) st n) i (in-L n m i h st A) (got n m i h st A) h (A .store) (A .progress))
 
     -- recovering, at store k, which is store h of entry i
     module _ (m k : ℕ) (st : List ℕ) (A : AtRecover tag g v₀ v l m k st) where
@@ -351,28 +355,28 @@ module _ (tag : Tag) (g : Layout) (v₀ : List ℕ) (X : Premises tag g v₀) wh
             fills = λ q. refl;
           })))
 
-      recover-half : (h : ℕ) → At g J k ri h → Advance tag g v₀ X v (l .contents) D f GJ (writes J) ri h → After h
-      recover-half h a (further b p) = go-on h ri (h + 1) (at-half g a) (at-on g a b) p
-      recover-half h a (arrived b p) = go (ℕ-discrete (ri + 1) (length J))
+      recover-store : (h : ℕ) → At g J k ri h → Advance tag g v₀ X v (l .contents) D f GJ (writes J) ri h → After h
+      recover-store h a (further b p) = go-on h ri (h + 1) (at-below g a) (at-on g a b) p
+      recover-store h a (arrived b p) = go (ℕ-discrete (ri + 1) (length J))
         where
           go : Dec (ri + 1 ≡ length J) → After h
           go (yes q) =
               let z : suc ri ≡ length (writes J) = omega (arith, length-writes J) in
-              ended h (at-half g a) (at-last g a b q) (subst (Pass (g .provided) (Home g tag (u h)) (l .contents) (writes J)) z p)
+              ended h (at-below g a) (at-last g a b q) (subst (Pass (g .provided) (Home g tag (u h)) (l .contents) (writes J)) z p)
           go (no q) =
-              go-on h (suc ri) 0 (at-half g a) (at-next g (λ y. omega (arith, home-some g (y .entry))) a b (omega (arith, in-J))) p
+              go-on h (suc ri) 0 (at-below g a) (at-next g (λ y. omega (arith, home-some g (y .entry))) a b (omega (arith, in-J))) p
 
       step-recover : StepLeads d l (recoverStep (stateAt g 0 m (Recovering k)) v st k)
       step-recover =
           rw (at-get g (A .spot))
-          (recover-half (A .h) (A .spot)
-          (advance tag g v₀ X v (l .contents) D f GJ (writes J) ri in-W gotJ (A .h) (at-half g (A .spot)) (A .progress)))
+          (recover-store (A .h) (A .spot)
+          (advance tag g v₀ X v (l .contents) D f GJ (writes J) ri in-W gotJ (A .h) (at-below g (A .spot)) (A .progress)))
 
       -- the store leaves the replay as it is
       pub replay-stays : replay g (afterEffect v (recoverStep (stateAt g 0 m (Recovering k)) v st k .effect)) ≡ replay g v
       replay-stays =
           rw (at-get g (A .spot), home-effect (stateAt g 0 m (Recovering k)) v st f (A .h) (eqb (k + 1) (stepsOf g J)) (Recovering (k + 1)) st)
-          (sameJ (A .h) (at-half g (A .spot)))
+          (sameJ (A .h) (at-below g (A .spot)))
 
       abbrev pub live-after : StepResult → Live
       live-after o = on (o .state) (o .staging)
@@ -385,23 +389,23 @@ module _ (tag : Tag) (g : Layout) (v₀ : List ℕ) (X : Premises tag g v₀) wh
   -- ---- every live state's step is that of its phase: no rule of the call is met
 
   sound-runs : (v : List ℕ) (n m : ℕ) (st : List ℕ) (p : Phase) → Staged tag g v₀ st n → m ≢ 0 → placeOk g n m p ≡ true
-      → length v ≡ length v₀ → replayOk g v p ≡ true → Unmet (rangeRows (stateAt g n m p) v st p)
+      → length v ≡ length v₀ → replayOk g v p ≡ true → storeOk g st p ≡ true → Unmet (rangeRows (stateAt g n m p) v st p)
       → stepOf (stateAt g n m p) v st ≡ phaseStep (stateAt g n m p) v st p
-  sound-runs v n m st p S z a b c u =
-      step-runs n m p v st (sound n m p (S .count) z a) (sound-volume v n m p b c) (sound-staging st (S .size)) u
+  sound-runs v n m st p S z a b c d u =
+      step-runs n m p v st (sound n m p (S .count) z a) (sound-volume v n m p b c) (sound-staged st n m p (S .size) d) u
 
   pub live-runs : (d : Medium) (l : Ledger) (s : State) (st : List ℕ) → Lives tag g v₀ d l (on s st) → stepOf s (volumeIn d) st ≡ phaseStep s (volumeIn d) st (s .phase)
-  live-runs d l s st (working n m _ _ (inFilling D A)) = sound-runs (volumeIn d) n m st Filling (A .staged) (omega (arith, A .next)) refl (D .sized) refl tt
+  live-runs d l s st (working n m _ _ (inFilling D A)) = sound-runs (volumeIn d) n m st Filling (A .staged) (omega (arith, A .next)) refl (D .sized) refl refl tt
   live-runs d l s st (working n m (Committing j) _ (inCommitting p A)) =
       sound-runs (volumeIn d) n m st (Committing j) (A .staged) (omega (arith, A .next))
       (rw (lt-ltb j (sectionSize (g .width)) p, lt-ltb 0 n (A .some), lt-ltb m (2 ^ 64 - 1) (A .given)))
-      (A .torn .long ∙ A .disk .sized) refl tt
+      (A .torn .long ∙ A .disk .sized) refl refl tt
   live-runs d l s st (working n m (WritingBack i h) _ (inWritingBack D A)) =
       sound-runs (volumeIn d) n m st (WritingBack i h) (A .staged) (omega (arith, A .next))
-      (rw (lt-ltb i n (A .place), lt-ltb h mostHomeStores (omega (arith, A .half, home-most g (entryOf (g .width) st i)))))
-      (D .sized) refl (lt-leb (g .provided) (entryOf (g .width) st i .sector) (G d l D n m i h st A .low), tt)
+      (rw (lt-ltb i n (A .place), lt-ltb h mostHomeStores (omega (arith, A .store, home-most g (entryOf (g .width) st i)))))
+      (D .sized) refl (lt-ltb h (homeCount g (entryOf (g .width) st i)) (A .store)) (lt-leb (g .provided) (entryOf (g .width) st i .sector) (G d l D n m i h st A .low), tt)
   live-runs d l s st (working n m (Recovering k) _ (inRecovering D A)) =
-      sound-runs (volumeIn d) 0 m st (Recovering k) (A .staged) (omega (arith, A .next)) refl (D .sized) (lt-ltb k (stepsOf g (replay g (volumeIn d))) (at-in g (A .spot)))
+      sound-runs (volumeIn d) 0 m st (Recovering k) (A .staged) (omega (arith, A .next)) refl (D .sized) (lt-ltb k (stepsOf g (replay g (volumeIn d))) (at-in g (A .spot))) refl
       (rw (at-get g (A .spot)) (lt-leb (g .provided) (f d l D m k st A .sector) (GJ d l D m k st A .low)), tt)
 
   phase-keeps : (d : Medium) (l : Ledger) (s : State) (st : List ℕ) → Lives tag g v₀ d l (on s st) → StepLeads d l (phaseStep s (volumeIn d) st (s .phase))

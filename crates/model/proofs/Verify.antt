@@ -14,11 +14,13 @@ use Rattle.model.specs.declared.Phase.{Phase}
 use Rattle.model.specs.declared.Phase.the-variants.{Filling, Committing, WritingBack, Recovering}
 use Rattle.model.specs.declared.State.{State}
 use Rattle.model.specs.Tag.{Tags, hmacTagOf}
-use Rattle.model.specs.State.{Verdict, passed, stateOk, volumeOk, stagingOk, sectorOk, isFilling, isRecovering}
+use Rattle.model.specs.State.{Verdict, passed, stateOk, volumeOk, stagedOk, sectorOk, isFilling, isRecovering}
 use Rattle.model.specs.Read.{readRows, readBy, readOf}
 use Rattle.model.specs.Keyed.{keyRefusal}
 use Rattle.model.specs.Verify.{verifyRows, verifyOf, verifyKeyedOf, VerifiesAsRead, VerifiesKeyed}
 use Rattle.model.proofs.Keyed.{with-key, without-key, first}
+use Rattle.model.proofs.Steps.{never}
+use Rattle.model.proofs.States.{staged-in}
 
 -- ---- as a read
 
@@ -47,10 +49,17 @@ verifies-as-read tags s v st n loan filling empty staging sector = sym (said (fi
     said (taken x) = refl
     said (refused r) = refl
 
+    -- in filling no store is asked for
+    staged : (p : Phase) → s .phase ≡ p → isFilling p ≡ true → stagedOk s st ≡ true
+    staged Filling q e = staged-in s st Filling q staging refl
+    staged (Committing j) q e = never e
+    staged (WritingBack i h) q e = never e
+    staged (Recovering k) q e = never e
+
     rules : firstMet (readRows tags s v st n loan) passed ≡ firstMet (verifyRows tags s v n 1) passed
     rules =
         let zero : n + 0 ≡ n = omega arith in
-        rw (staging, sector, and-true (volumeOk s v), filling, not-recovering (s .phase) filling, range (s .layout .provided) n, empty, zero)
+        rw (staged (s .phase) refl filling, sector, and-true (volumeOk s v), filling, not-recovering (s .phase) filling, range (s .layout .provided) n, empty, zero)
 
 -- ---- with a key
 

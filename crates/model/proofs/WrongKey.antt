@@ -18,7 +18,7 @@ use Rattle.on_disk.specs.Section.{putEntry}
 use Rattle.model.specs.declared.State.{State}
 use Rattle.model.specs.Journal.{Replayed, replay}
 use Rattle.model.specs.Tag.{Tag, Tags, tagAt}
-use Rattle.model.specs.State.{Verdict, passed, stateOk, volumeOk, stagingOk, sectorOk, isRecovering}
+use Rattle.model.specs.State.{Verdict, passed, stateOk, volumeOk, stagedOk, sectorOk, isRecovering}
 use Rattle.model.specs.Format.{zeros, freshRun, lastRun, lastLength, freshVolume, formatRows, formatBy, formatOf}
 use Rattle.model.specs.Open.{openRows, entriesVerdict, openBy, openWith, openOf}
 use Rattle.model.specs.Write.{writeRows, newEntry, writeBy, writeOf}
@@ -116,7 +116,7 @@ module _ (tags tags′ : Tags) where
   unfolding readOf
   reads s v st n loan e =
       λ i. readBy tags s v st n loan
-      (pick (not (stateOk s && (volumeOk s v && (stagingOk (s .layout) st && sectorOk loan)))) (refuse 1 [])
+      (pick (not (stateOk s && (volumeOk s v && (stagedOk s st && sectorOk loan)))) (refuse 1 [])
       (pick (isRecovering (s .phase)) (refuse 9 [])
       (pick (leb (s .layout .provided) n) (refuse 6 [])
       (pick (not (ltb (stagedFor s st n) (s .count)) && not (same (tagAt (s .layout) v n) (sym e i))) (refuse 7 (n ∷ [])) passed))))
@@ -150,7 +150,7 @@ module _ (tags tags′ : Tags) where
       → Shows (firstMet (readRows tags s v st n loan) passed) (firstMet (readRows tags′ s v st n loan) passed)
   read-rows-show s v st n loan =
       rows-show
-      ((not (stateOk s && (volumeOk s v && (stagingOk (s .layout) st && sectorOk loan))), refuse 1 []) ∷ (isRecovering (s .phase), refuse 9 []) ∷ [])
+      ((not (stateOk s && (volumeOk s v && (stagedOk s st && sectorOk loan))), refuse 1 []) ∷ (isRecovering (s .phase), refuse 9 []) ∷ [])
       _ _
       (entry-shows (leb (s .layout .provided) n)
       (not (ltb (stagedFor s st n) (s .count)) && not (same (tagAt (s .layout) v n) (tags (s .layout .width) n (sectorAt v (dataAt (s .layout) n)))))

@@ -16,7 +16,7 @@ use Rattle.on_disk.specs.declared.Layout.{Layout}
 use Rattle.on_disk.specs.Superblock.{superblockAt, layoutIn}
 use Rattle.model.specs.declared.State.{State}
 use Rattle.model.specs.Tag.{hmacTagOf}
-use Rattle.model.specs.State.{Verdict, passed, volumeLoanOk, stateOk, volumeOk, stagingOk, sectorOk}
+use Rattle.model.specs.State.{Verdict, passed, volumeLoanOk, stateOk, volumeOk, stagingOk, stagedOk, sectorOk}
 use Rattle.model.specs.Format.{FormatResult, formatRows, formatBy, formatOf}
 use Rattle.model.specs.Open.{OpenResult, openRows, replayVerdict, openBy, openOf}
 use Rattle.model.specs.Write.{WriteResult, writeRows, writeBy, writeOf}
@@ -59,7 +59,7 @@ pub record KeyRefused (key : List ℕ) : Type 0 where
       ≡ record { answer = keyRefusal (stateOk s && (stagingOk (s .layout) st && sectorOk bytes)); state = s; staging = st }
   pub read : (s : State) (v st : List ℕ) (n : ℕ) (loan : List ℕ)
       → readKeyedOf key s v st n loan
-      ≡ record { answer = keyRefusal (stateOk s && (volumeOk s v && (stagingOk (s .layout) st && sectorOk loan))); sector = loan }
+      ≡ record { answer = keyRefusal (stateOk s && (volumeOk s v && (stagedOk s st && sectorOk loan))); sector = loan }
 
 -- R106, of every key
 pub record KeyedCalls : Type 0 where

@@ -1,5 +1,6 @@
 -- The specification of the volume over its on-disk format, in the order of docs/RULES.md: tags, the journal, the calls, the ledger and demand 3 (R5). Query,
--- NextStore, Advance and Verify are calls that no rule has; Reserved, FirstRule, ReadBack and Guarantees state what holds beside demand 3.
+-- NextStore, Advance and Verify are calls that no rule has; Reserved, FirstRule, TagStores, ReadBack and Guarantees state what holds
+-- beside demand 3.
 pub mod Tag
 pub mod Journal
 pub mod Store
@@ -16,6 +17,7 @@ pub mod Step
 pub mod NextStore
 pub mod Advance
 pub mod Read
+pub mod TagStores
 pub mod Keyed
 pub mod Verify
 pub mod WrongKey

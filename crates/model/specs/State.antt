@@ -5,9 +5,10 @@
 -- volumeLoanOk v      : whether a volume is whole sectors, and not over the limit
 -- stagingOk g st      : whether a staging loan is as long as a section
 -- sectorOk b          : whether a loan is as long as a sector
--- placeOk g n id p    : whether the place of the phase p exists, as far as no volume is needed (R55, R56)
--- stateOk s           : whether the state s is sound, as far as no volume is needed
+-- placeOk g n id p    : whether the place of the phase p exists, as far as neither volume nor staging is needed (R55, R56): of an entry, three stores (R118)
+-- stateOk s           : whether the state s is sound, as far as neither is needed
 -- volumeOk s v        : whether v is a volume that the layout fits, and on which the place of s exists
+-- stagedOk s st       : whether st is a staging loan of its length, in which the place of s exists
 -- isFilling p, isRecovering p : which phase it is (R52)
 -- inPhase s p         : s in the phase p
 use Prim.Native.Nat.{ℕ, _-_, _*_, _%_, _^_}
@@ -23,7 +24,8 @@ use Rattle.model.specs.declared.Phase.the-variants.{Filling, Committing,
 use Rattle.model.specs.declared.State.{State}
 use Rattle.on_disk.specs.Layout.{mostSectors, entryCount, sectionSize, needed, layoutOk}
 use Rattle.model.specs.Journal.{replay}
-use Rattle.model.specs.Store.{mostHomeStores, stepsOf}
+use Rattle.on_disk.specs.Section.{entryOf}
+use Rattle.model.specs.Store.{mostHomeStores, homeCount, stepsOf}
 
 -- The rules of a call are rows of a test and a verdict, in order, read by `firstMet` of octets (R69).
 abbrev pub Verdict : Type 0
@@ -66,6 +68,16 @@ replayOk g v (Recovering k) = ltb k (stepsOf g (replay g v))
 
 unfoldable pub volumeOk : State → List ℕ → Bool
 volumeOk s v = volumeLoanOk v && (leb (needed (s .layout) * sectorSize) (length v) && replayOk (s .layout) v (s .phase))
+
+-- a store that the staged entry has (R118)
+abbrev pub storeOk : Layout → List ℕ → Phase → Bool
+storeOk g st Filling = true
+storeOk g st (Committing j) = true
+storeOk g st (WritingBack i h) = ltb h (homeCount g (entryOf (g .width) st i))
+storeOk g st (Recovering k) = true
+
+unfoldable pub stagedOk : State → List ℕ → Bool
+stagedOk s st = stagingOk (s .layout) st && storeOk (s .layout) st (s .phase)
 
 abbrev pub inPhase : State → Phase → State
 inPhase s p = record { layout = s .layout; phase = p; count = s .count; id = s .id }

@@ -16,7 +16,7 @@ use Rattle.model.specs.declared.Phase.the-variants as phases
 use Rattle.model.specs.declared.Says.the-variants as says
 use Rattle.model.specs.declared.State.{State}
 use Rattle.model.specs.Store.{none, storeOf, RecoveryStep, storing, recoveryStepAt}
-use Rattle.model.specs.State.{Verdict, passed, stateOk, volumeOk, stagingOk}
+use Rattle.model.specs.State.{Verdict, passed, stateOk, volumeOk, stagedOk}
 use Rattle.model.specs.StepResult.{StepResult}
 use Rattle.model.specs.JournalStep.{stagedEntry, commitStep, writeBackStep, recoverStep}
 
@@ -30,7 +30,7 @@ rangeRows s v st (phases.WritingBack i h) = (leb (s .layout .provided) (stagedEn
 rangeRows s v st (phases.Recovering k) = recoveryRow (s .layout) (recoveryStepAt (s .layout) v k) ∷ []
 
 abbrev pub stepRows : State → List ℕ → List ℕ → List (Bool × Verdict)
-stepRows s v st = (not (stateOk s && (volumeOk s v && stagingOk (s .layout) st)), refuse 1 []) ∷ rangeRows s v st (s .phase)
+stepRows s v st = (not (stateOk s && (volumeOk s v && stagedOk s st)), refuse 1 []) ∷ rangeRows s v st (s .phase)
 
 module _ (s : State) (v st : List ℕ) where
   abbrev pub phaseStep : Phase → StepResult

@@ -13,7 +13,7 @@ pub enum Phase {
     Filling,
     // Sector j of the section is stored next.
     Committing(usize),
-    // Of entry i, store h is made next: its data for 0, its tag for 1.
+    // Of entry i, store h is made next: its data for 0, its tag for 1, what of the tag lies in the next sector for 2.
     WritingBack(usize, usize),
     // Store k of the replay is made next.
     Recovering(usize),

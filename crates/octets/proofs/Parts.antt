@@ -36,6 +36,10 @@ part-part l a n b m h = part-take b m n (drop a l) h ∙ ap (take m) (drop-drop 
     part-take (suc b) m (suc n) [] k = refl
     part-take (suc b) m (suc n) (y ∷ x) k = part-take b m n x (omega arith)
 
+-- two parts side by side
+pub part-add : (l : List ℕ) (a n m : ℕ) → part l a (n + m) ≡ part l a n ++ part l (a + n) m
+part-add l a n m = take-add n m (drop a l) ∙ ap (λ (x : List ℕ). part l a n ++ take m x) (drop-drop n a l)
+
 -- ---- two lists joined
 
 -- a part of the first

@@ -1,19 +1,19 @@
 -- Regions of a volume: the data sector and the tag of each logical sector lie apart from one another and behind the journal.
 use Prim.Native.Nat.{ℕ, zero, suc, _+_, _-_, _*_, _/_, _%_, _≤_, _<_}
-use mathlib.Core.Bool.{Bool, true, false, _&&_, _||_}
+use mathlib.Core.Bool.{Bool, true, false, _&&_}
 use mathlib.Core.Path.{_≡_, refl, sym, ap, _∙_}
 use mathlib.Core.Logic.{_≢_}
 use mathlib.Core.List.{List}
 use native.Mathlib.Omega.{arith}
 use native.Mathlib.Decide.{decLt}
-use native.Mathlib.Nat.{mul-le-mul-right, mul-assoc, add-mul, suc-mul, mod-lt, div-add-mod'}
+use native.Mathlib.Nat.{mul-le-mul-right, suc-mul, mod-lt, div-add-mod'}
 use lib.Pow.{pow-pos}
 use lib.ListN.{length}
-use lib.Dec.{leb, eqb}
-use borrow.Author.Tests.{eqb-true, leb-true}
+use lib.Dec.{leb}
+use borrow.Author.Tests.{leb-true, ltb-true, ltb-false}
 use Rattle.octets.specs.Parts.{part, patch}
 use Rattle.octets.proofs.Parts.{part-patch-before, part-patch-after}
-use Rattle.on_disk.specs.Layout.{mostReserved, leastShift, mostShift, mostSections, mostProvided, sectionSize, runLength, tagArea, sectionAt, base, runAt, dataAt, tagStart, tagByte, tagSector, tagOffset, needed, layoutOk, widthOk}
+use Rattle.on_disk.specs.Layout.{mostReserved, leastShift, mostShift, mostWidth, mostSections, mostProvided, sectionSize, runLength, tagArea, sectionAt, base, runAt, dataAt, tagStart, tagByte, tagSector, tagOffset, crosses, needed, layoutOk, widthOk}
 use Rattle.on_disk.specs.declared.Layout.{Layout}
 use Rattle.on_disk.specs.Geometry.{Apart, before, behind}
 
@@ -25,12 +25,10 @@ pub and-both : (a b : Bool) → _&&_ a b ≡ true → (a ≡ true) × (b ≡ tru
 and-both true b e = (refl, e)
 and-both false b e = absurd (let z : _≡_ {A = ℕ} 0 1 = cc in omega arith)
 
--- what is used of a tag's size: it divides a sector
+-- what is used of a tag's size
 pub record Sizes (t : ℕ) : Type 0 where
   pub some : 1 ≤ t
-  pub bound : t ≤ 32
-  pub times : ℕ
-  pub divides : times * t ≡ 512
+  pub bound : t ≤ mostWidth
 
 pub record Ranged (g : Layout) : Type 0 where
   pub r : g .reserved ≤ mostReserved
@@ -44,15 +42,9 @@ pub record Ranged (g : Layout) : Type 0 where
 
 sizes : (t : ℕ) → widthOk t ≡ true → Sizes t
 unfolding widthOk
-sizes t = go (eqb t 8) (eqb t 16) refl refl
-  where
-    of : (n k : ℕ) → 1 ≤ n → n ≤ 32 → k * n ≡ 512 → t ≡ n → Sizes t
-    of n k l h e q = record { some = omega arith; bound = omega arith; times = k; divides = ap (λ (x : ℕ). k * x) q ∙ e }
-
-    go : (a b : Bool) → eqb t 8 ≡ a → eqb t 16 ≡ b → a || b || eqb t 32 ≡ true → Sizes t
-    go true b p q e = of 8 64 (omega arith) (omega arith) refl (eqb-true t 8 p)
-    go false true p q e = of 16 32 (omega arith) (omega arith) refl (eqb-true t 16 q)
-    go false false p q e = of 32 16 (omega arith) (omega arith) refl (eqb-true t 32 e)
+sizes t e =
+    let c = and-both (leb 1 t) (leb t mostWidth) e in
+    record { some = leb-true 1 t (c .0); bound = leb-true t mostWidth (c .1) }
 
 pub ranged : (g : Layout) → layoutOk g ≡ true → Ranged g
 unfolding layoutOk
@@ -186,30 +178,18 @@ module _ (g : Layout) (R : Ranged g) where
   pub tag-sector : (s : ℕ) → tagSector g s * 512 + tagOffset g s ≡ tagByte g s
   tag-sector s = omega arith
 
-  -- the size of a tag divides a sector's, so that no tag crosses into the next
-  pub tag-inside : (s : ℕ) → tagOffset g s + g .width ≤ 512
-  tag-inside s = whole (s % runLength g)
-    where
-      k : ℕ
-      k = R .t .times
+  pub tag-offset : (s : ℕ) → tagOffset g s < 512
+  tag-offset s = mod-lt (tagStart g s) (omega arith)
 
-      some-times : 0 < k
-      some-times = go k (R .t .divides)
-        where
-          go : (n : ℕ) → n * g .width ≡ 512 → 0 < n
-          go zero e = absurd (omega (arith, e))
-          go (suc n) e = omega arith
+  pub not-crossing : (s : ℕ) → crosses g s ≡ false → tagOffset g s + g .width ≤ 512
+  not-crossing s e = ltb-false 512 (tagOffset g s + g .width) e
 
-      whole : (i : ℕ) → i * g .width % 512 + g .width ≤ 512
-      whole i =
-          let rest : i % k < k = mod-lt i some-times in
-          let last : suc (i % k) * g .width ≤ k * g .width = mul-le-mul-right (g .width) rest in
-          let next : suc (i % k) * g .width ≡ i % k * g .width + g .width = suc-mul (i % k) (g .width) in
-          let split : i / k * k + i % k ≡ i = div-add-mod' i k in
-          let product : (i / k * k + i % k) * g .width ≡ i / k * k * g .width + i % k * g .width = add-mul (i / k * k) (i % k) (g .width) in
-          let sectors : i / k * k * g .width ≡ i / k * 512 = mul-assoc (i / k) k (g .width) ∙ ap (λ (x : ℕ). i / k * x) (R .t .divides) in
-          let all : i * g .width ≡ i / k * 512 + i % k * g .width = ap (λ (x : ℕ). x * g .width) (sym split) ∙ product ∙ ap (λ (x : ℕ). x + i % k * g .width) sectors in
-          omega (arith, R .t .divides, R .t .some)
+  pub crossing : (s : ℕ) → crosses g s ≡ true → 512 < tagOffset g s + g .width
+  crossing s e = ltb-true 512 (tagOffset g s + g .width) e
+
+  -- the sector that a tag goes on in lies in its run's tag area
+  pub next-in-area : (s : ℕ) → crosses g s ≡ true → tagSector g s + 1 < runAt g s + tagArea g
+  next-in-area s e = omega (arith, tag-in-area s, crossing s e)
 
   pub data-high : (s : ℕ) → base g ≤ dataAt g s
   data-high s = omega arith
@@ -247,6 +227,12 @@ module _ (g : Layout) (R : Ranged g) where
       let d : dataAt g s + 1 ≤ needed g = data-room s l in
       let a = tag-in-area s in
       omega (arith, R .t .some)
+
+  pub tag-end : (s : ℕ) → s < g .provided → tagByte g s + g .width ≤ needed g * 512
+  tag-end s l = omega (arith, area-room s l, tag-in-area s)
+
+  pub next-room : (s : ℕ) → s < g .provided → crosses g s ≡ true → tagSector g s + 2 ≤ needed g
+  next-room s l e = omega (arith, area-room s l, next-in-area s e)
 
   pub section-low : (k : ℕ) → k < g .sections → sectionAt g k + sectionSize (g .width) ≤ base g
   section-low k l = section-order g k (g .sections) l

@@ -19,7 +19,7 @@ use Rattle.octets.specs.Sectors.{sectorAt, putSector}
 use Rattle.octets.proofs.Parts.{part-append-left, part-patch-same, length-patch, part-part, length-part}
 use Rattle.octets.proofs.Sectors.{length-put, sector-put-same, sector-put-other}
 use Rattle.on_disk.specs.Geometry.{Apart, before, behind}
-use Rattle.on_disk.specs.Layout.{entrySize, perSector, entryCount, sectionSize}
+use Rattle.on_disk.specs.Layout.{tagPart, entrySize, perSector, entryCount, sectionSize}
 use Rattle.on_disk.specs.Section.{unused, emptyEntry, emptySector, emptySection, Entry, idOf, withId, metadataOf, entryOffset, readEntry, entryOf, entryBytes, putEntry}
 use Rattle.octets.specs.Lists.{collect}
 use Rattle.on_disk.proofs.Addresses.{part-apart}
@@ -114,23 +114,24 @@ readEntry-part t m at body =
 
 -- an entry's bytes, read back
 pub readEntry-bytes : (e : Entry) (t : ℕ) (body : List ℕ) → e .sector < 2 ^ 64 → length (e .bytes) ≡ 512 → length (e .tag) ≡ t
-    → take 504 body ≡ take 504 (e .bytes) → readEntry t (entryBytes e) 0 body ≡ e
+    → take 504 body ≡ take 504 (e .bytes) → readEntry t (entryBytes t e) 0 body ≡ e
 readEntry-bytes e t body l n k b =
+    let padded : List ℕ = e .tag ++ replicate (tagPart t - t) 0 in
     let r : length (drop 504 (e .bytes)) ≡ 8 = simp (length-drop) (omega arith) in
-    let e₁ : value (part (entryBytes e) 0 8) ≡ e .sector =
-    ap value (take-at (le 8 (e .sector)) (drop 504 (e .bytes) ++ e .tag) 8 (length-le 8 (e .sector))) ∙ value-le 8 (e .sector) l in
-    let d₁ : drop 8 (entryBytes e) ≡ drop 504 (e .bytes) ++ e .tag = drop-at (le 8 (e .sector)) (drop 504 (e .bytes) ++ e .tag) 8 (length-le 8 (e .sector)) in
-    let e₂ : part (entryBytes e) 8 8 ≡ drop 504 (e .bytes) = ap (take 8) d₁ ∙ take-at (drop 504 (e .bytes)) (e .tag) 8 r in
-    let d₂ : drop 16 (entryBytes e) ≡ e .tag = sym (drop-drop 8 8 (entryBytes e)) ∙ ap (drop 8) d₁ ∙ drop-at (drop 504 (e .bytes)) (e .tag) 8 r in
-    let e₃ : part (entryBytes e) 16 t ≡ e .tag = ap (take t) d₂ ∙ take-all t (e .tag) (omega arith) in
-    let e₄ : take 504 body ++ part (entryBytes e) 8 8 ≡ e .bytes =
+    let e₁ : value (part (entryBytes t e) 0 8) ≡ e .sector =
+    ap value (take-at (le 8 (e .sector)) (drop 504 (e .bytes) ++ padded) 8 (length-le 8 (e .sector))) ∙ value-le 8 (e .sector) l in
+    let d₁ : drop 8 (entryBytes t e) ≡ drop 504 (e .bytes) ++ padded = drop-at (le 8 (e .sector)) (drop 504 (e .bytes) ++ padded) 8 (length-le 8 (e .sector)) in
+    let e₂ : part (entryBytes t e) 8 8 ≡ drop 504 (e .bytes) = ap (take 8) d₁ ∙ take-at (drop 504 (e .bytes)) padded 8 r in
+    let d₂ : drop 16 (entryBytes t e) ≡ padded = sym (drop-drop 8 8 (entryBytes t e)) ∙ ap (drop 8) d₁ ∙ drop-at (drop 504 (e .bytes)) padded 8 r in
+    let e₃ : part (entryBytes t e) 16 t ≡ e .tag = ap (take t) d₂ ∙ take-at (e .tag) (replicate (tagPart t - t) 0) t k in
+    let e₄ : take 504 body ++ part (entryBytes t e) 8 8 ≡ e .bytes =
     ap (λ (x : List ℕ). take 504 body ++ x) e₂ ∙ ap (λ (x : List ℕ). x ++ drop 504 (e .bytes)) b ∙ take-append-drop 504 (e .bytes) in
     λ i. record { sector = e₁ i; bytes = e₄ i; tag = e₃ i }
 
 -- ---- an entry is put
 
 abbrev metaNew : ℕ → List ℕ → ℕ → Entry → List ℕ
-metaNew t st i e = patch (sectorAt st (metadataOf t i)) (entryOffset t i) (entryBytes e)
+metaNew t st i e = patch (sectorAt st (metadataOf t i)) (entryOffset t i) (entryBytes t e)
 
 abbrev bodyNew : List ℕ → ℕ → Entry → List ℕ
 bodyNew st i e = take 504 (e .bytes) ++ drop 504 (sectorAt st (8 + i))
@@ -140,8 +141,8 @@ half t st i e = putSector st (metadataOf t i) (metaNew t st i e)
 
 module _ (t : ℕ) (pos : 0 < perSector t) (st : List ℕ) (i : ℕ) (e : Entry) (size : length st ≡ sectionSize t * 512) (l : i < entryCount t)
     (s64 : e .sector < 2 ^ 64) (b512 : length (e .bytes) ≡ 512) (tt′ : length (e .tag) ≡ t) where
-  eb-length : length (entryBytes e) ≡ entrySize t
-  eb-length = simp (length-append, length-drop) (omega arith)
+  eb-length : length (entryBytes t e) ≡ entrySize t
+  eb-length = simp (length-append, length-drop, length-replicate) (omega arith)
 
   m-low : metadataOf t i < 8
   m-low = entry-low t pos i l
@@ -152,11 +153,11 @@ module _ (t : ℕ) (pos : 0 < perSector t) (st : List ℕ) (i : ℕ) (e : Entry)
   body-length : length (sectorAt st (8 + i)) ≡ 512
   body-length = length-part st ((8 + i) * 512) 512 (omega arith)
 
-  new-fits : entryOffset t i + length (entryBytes e) ≤ length (sectorAt st (metadataOf t i))
+  new-fits : entryOffset t i + length (entryBytes t e) ≤ length (sectorAt st (metadataOf t i))
   new-fits = omega (arith, entry-fits t pos i, eb-length, old-length)
 
-  new-length : length (patch (sectorAt st (metadataOf t i)) (entryOffset t i) (entryBytes e)) ≡ 512
-  new-length = length-patch (sectorAt st (metadataOf t i)) (entryOffset t i) (entryBytes e) new-fits ∙ old-length
+  new-length : length (patch (sectorAt st (metadataOf t i)) (entryOffset t i) (entryBytes t e)) ≡ 512
+  new-length = length-patch (sectorAt st (metadataOf t i)) (entryOffset t i) (entryBytes t e) new-fits ∙ old-length
 
   new-body-length : length (take 504 (e .bytes) ++ drop 504 (sectorAt st (8 + i))) ≡ 512
   new-body-length = simp (length-append, length-drop, length-take-le 504 (e .bytes) (omega arith), body-length) (omega arith)
@@ -174,7 +175,7 @@ module _ (t : ℕ) (pos : 0 < perSector t) (st : List ℕ) (i : ℕ) (e : Entry)
   length-putEntry = length-put (half t st i e) (8 + i) (bodyNew st i e) new-body-length in₂ ∙ length₁
 
   -- the metadata sectors and the data sectors afterwards
-  meta-same : sectorAt (putEntry t st i e) (metadataOf t i) ≡ patch (sectorAt st (metadataOf t i)) (entryOffset t i) (entryBytes e)
+  meta-same : sectorAt (putEntry t st i e) (metadataOf t i) ≡ patch (sectorAt st (metadataOf t i)) (entryOffset t i) (entryBytes t e)
   meta-same =
       sector-put-other (half t st i e) (8 + i) (bodyNew st i e) new-body-length in₂ (metadataOf t i) (omega (arith, m-low))
       ∙ sector-put-same st (metadataOf t i) (metaNew t st i e) new-length in₁
@@ -198,7 +199,7 @@ module _ (t : ℕ) (pos : 0 < perSector t) (st : List ℕ) (i : ℕ) (e : Entry)
       rw (meta-same, data-same)
       (sym (readEntry-part t (metaNew t st i e) (entryOffset t i) (bodyNew st i e))
       ∙ ap (λ (x : List ℕ). readEntry t x 0 (take 504 (e .bytes) ++ drop 504 (sectorAt st (8 + i))))
-      (part-patch-same (sectorAt st (metadataOf t i)) (entryOffset t i) (entryBytes e) new-fits (entrySize t) (sym eb-length))
+      (part-patch-same (sectorAt st (metadataOf t i)) (entryOffset t i) (entryBytes t e) new-fits (entrySize t) (sym eb-length))
       ∙ readEntry-bytes e t (bodyNew st i e) s64 b512 tt′ (take-at (take 504 (e .bytes)) (drop 504 (sectorAt st (8 + i))) 504 (length-take-le 504 (e .bytes) (omega arith))))
 
   pub entryOf-put-other : (j : ℕ) → j < entryCount t → j ≢ i → entryOf t (putEntry t st i e) j ≡ entryOf t st j
@@ -206,8 +207,8 @@ module _ (t : ℕ) (pos : 0 < perSector t) (st : List ℕ) (i : ℕ) (e : Entry)
   entryOf-put-other j k n = go (ℕ-discrete (metadataOf t j) (metadataOf t i))
     where
       near : metadataOf t j ≡ metadataOf t i
-          → part (patch (sectorAt st (metadataOf t i)) (entryOffset t i) (entryBytes e)) (entryOffset t j) (entrySize t) ≡ part (sectorAt st (metadataOf t i)) (entryOffset t j) (entrySize t)
-      near q = part-apart (sectorAt st (metadataOf t i)) (entryOffset t i) (entryBytes e) (entryOffset t j) (entrySize t) new-fits
+          → part (patch (sectorAt st (metadataOf t i)) (entryOffset t i) (entryBytes t e)) (entryOffset t j) (entrySize t) ≡ part (sectorAt st (metadataOf t i)) (entryOffset t j) (entrySize t)
+      near q = part-apart (sectorAt st (metadataOf t i)) (entryOffset t i) (entryBytes t e) (entryOffset t j) (entrySize t) new-fits
           (subst (λ (x : ℕ). Apart (entryOffset t j) (entrySize t) (entryOffset t i) x) (sym eb-length) (entry-apart t pos j i n q))
 
       go : Dec (metadataOf t j ≡ metadataOf t i) → entryOf t (putEntry t st i e) j ≡ entryOf t st j
@@ -319,7 +320,7 @@ module _ (t : ℕ) (pos : 0 < perSector t) where
       ∙ ap (λ (x : List ℕ). part x 0 8) e₃ in
       ap value (ap (λ (x : List ℕ). part x (entryOffset t i) 8) (e₁ ∙ e₂)
       ∙ part-append-left (collect (perSector t) (λ i. emptyEntry t)) (replicate (512 - entrySize t * perSector t) 0) (entryOffset t i) 8 (omega (arith, meta-chunks))
-      ∙ e₄ ∙ take-at (le 8 unused) (replicate (8 + t) 0) 8 (length-le 8 unused))
+      ∙ e₄ ∙ take-at (le 8 unused) (replicate (8 + tagPart t) 0) 8 (length-le 8 unused))
       ∙ value-le 8 unused (omega arith)
 
 -- ---- an entry that is read from a section has all its bytes

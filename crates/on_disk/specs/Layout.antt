@@ -1,7 +1,7 @@
 -- Sizes and addresses, stated once over T (R103). Unless another unit is named, a size is in sectors, and an address is the number of a sector of the
 -- volume. The parameters: reserved is r, 2 ^ shift is N, width is T, sections is S, provided is P.
 --
--- entrySize t      : the bytes of a journal entry
+-- tagPart t        : the bytes that a tag takes in a journal entry; entrySize t: the bytes of the entry
 -- perSector t      : the entries in a metadata sector
 -- entryCount t     : E, the entries of a section
 -- sectionSize t    : M, the size of a section
@@ -12,11 +12,12 @@
 -- runAt g s        : the first sector of the run that has logical sector s
 -- dataAt g s       : where logical sector s lies
 -- tagByte g s      : the byte of the volume at which the tag of s starts: byte tagOffset g s of sector tagSector g s
+-- crosses g s      : whether the tag of s goes on in the next sector; firstPart g s: the bytes from its start to the end of its first sector
 -- needed g         : the sectors that the layout needs
 -- layoutOk g       : whether every parameter is in range
 use Prim.Native.Nat.{ℕ, _+_, _-_, _*_, _/_, _%_, _^_}
-use mathlib.Core.Bool.{Bool, _&&_, _||_}
-use lib.Dec.{leb, eqb}
+use mathlib.Core.Bool.{Bool, _&&_}
+use lib.Dec.{leb, ltb}
 use Rattle.octets.specs.Sectors.{sectorSize}
 use Rattle.on_disk.specs.declared.Layout.{Layout}
 
@@ -43,10 +44,14 @@ mostSections = 64
 abbrev pub mostProvided : ℕ
 mostProvided = 65536
 
--- ---- a section: R27, an entry has a logical sector (8 bytes), the last 8 data bytes and the tag; R28, whole entries in 496 bytes; R26, M = 8 + E
+-- ---- a section: R27, an entry has a logical sector (8 bytes), the last 8 data bytes and the tag part; R28, whole entries in 496 bytes; R26, M = 8 + E
+
+-- R115: the tag, rounded up to a multiple of 8 bytes
+abbrev pub tagPart : ℕ → ℕ
+tagPart t = 8 * ((t + 7) / 8)
 
 abbrev pub entrySize : ℕ → ℕ
-entrySize t = 16 + t
+entrySize t = 16 + tagPart t
 
 abbrev pub perSector : ℕ → ℕ
 perSector t = 496 / entrySize t
@@ -98,6 +103,13 @@ tagSector g s = runAt g s + tagStart g s / sectorSize
 abbrev pub tagOffset : Layout → ℕ → ℕ
 tagOffset g s = tagStart g s % sectorSize
 
+-- R116: a matter of s mod N alone, so that it may be asked of any number
+abbrev pub crosses : Layout → ℕ → Bool
+crosses g s = ltb sectorSize (tagOffset g s + g .width)
+
+abbrev pub firstPart : Layout → ℕ → ℕ
+firstPart g s = sectorSize - tagOffset g s
+
 -- R18: the last run ends with the last data sector
 abbrev pub needed : Layout → ℕ
 needed g = dataAt g (g .provided - 1) + 1
@@ -105,7 +117,7 @@ needed g = dataAt g (g .provided - 1) + 1
 -- ---- ranges: R25
 
 unfoldable pub widthOk : ℕ → Bool
-widthOk t = eqb t 8 || eqb t 16 || eqb t 32
+widthOk t = leb 1 t && leb t mostWidth
 
 unfoldable pub layoutOk : Layout → Bool
 layoutOk g =

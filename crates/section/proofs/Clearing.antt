@@ -11,7 +11,7 @@ use borrow.Author.Tests.{lt-ltb, le-ltb}
 use Rattle.octets.specs.Numbers.{le}
 use Rattle.octets.specs.Parts.{part, patch}
 use Rattle.octets.proofs.Parts.{length-patch, take-patch, drop-replicate}
-use Rattle.on_disk.specs.Layout.{entrySize, perSector}
+use Rattle.on_disk.specs.Layout.{tagPart, entrySize, perSector}
 use Rattle.on_disk.specs.Section.{unused, emptyEntry, emptySector}
 use Rattle.octets.specs.Lists.{collect}
 use Rattle.on_disk.proofs.Sections.{length-collect}
@@ -46,10 +46,10 @@ module _ (t i : ℕ) where
       → r′ ≡ marked t (i + 1)
   mark r r′ h e e′ =
       let next : (i + 1) * entrySize t ≡ i * entrySize t + entrySize t = ap (λ (k : ℕ). k * entrySize t) (add-one i) ∙ suc-mul i (entrySize t) in
-      let left : 512 - i * entrySize t - 8 ≡ 8 + t + (512 - (i + 1) * entrySize t) = omega arith in
-      let zeros : drop 8 (replicate {A = ℕ} (512 - i * entrySize t) 0) ≡ replicate (8 + t) 0 ++ replicate (512 - (i + 1) * entrySize t) 0 =
+      let left : 512 - i * entrySize t - 8 ≡ 8 + tagPart t + (512 - (i + 1) * entrySize t) = omega arith in
+      let zeros : drop 8 (replicate {A = ℕ} (512 - i * entrySize t) 0) ≡ replicate (8 + tagPart t) 0 ++ replicate (512 - (i + 1) * entrySize t) 0 =
       drop-replicate 8 (512 - i * entrySize t) 0 (omega arith) ∙ ap (λ (k : ℕ). replicate k 0) left
-      ∙ sym (replicate-append-replicate (8 + t) (512 - (i + 1) * entrySize t) 0) in
+      ∙ sym (replicate-append-replicate (8 + tagPart t) (512 - (i + 1) * entrySize t) 0) in
       e′ ∙ ap (λ (x : List ℕ). patch x (i * entrySize t) (le 8 unused)) e
       ∙ patch-behind (collect i (λ j. emptyEntry t)) (replicate (512 - i * entrySize t) 0) (le 8 unused) (i * entrySize t) entries-length
       ∙ ap (λ (x : List ℕ). collect i (λ j. emptyEntry t) ++ (le 8 unused ++ x)) zeros

@@ -1,9 +1,9 @@
 -- An entry by its bytes in a section: read part by part, and put in part by part.
-use Prim.Native.Nat.{ℕ, _+_, _*_, _/_, _%_, _≤_, _<_}
+use Prim.Native.Nat.{ℕ, _+_, _-_, _*_, _/_, _%_, _≤_, _<_}
 use mathlib.Core.List.{List, _++_, append-assoc}
 use mathlib.Core.Path.{_≡_, refl, sym, ap, _∙_}
 use native.Mathlib.Omega.{arith}
-use lib.ListN.{length, take, drop, length-append, length-drop}
+use lib.ListN.{length, take, drop, replicate, length-append, length-drop, length-replicate}
 use lib.Seq.{take-all, take-take, length-take-le}
 use Rattle.octets.specs.Numbers.{le, value}
 use Rattle.octets.specs.Parts.{part, patch}
@@ -11,7 +11,7 @@ use Rattle.octets.specs.Sectors.{sectorAt, putSector}
 use Rattle.octets.proofs.Numbers.{length-le}
 use Rattle.octets.proofs.Parts.{length-part, length-patch, part-part, patch-join, patch-all}
 use Rattle.octets.proofs.Sectors.{put-inside, sector-put-other}
-use Rattle.on_disk.specs.Layout.{entrySize, perSector, entryCount, sectionSize}
+use Rattle.on_disk.specs.Layout.{tagPart, entrySize, perSector, entryCount, sectionSize}
 use Rattle.on_disk.specs.Section.{idOf, metadataOf, entryOffset, entryOf, putEntry}
 use Rattle.on_disk.proofs.Sections.{per-pos, entry-fits, entry-low}
 
@@ -67,8 +67,11 @@ module _ (t i : ℕ) (small : t ≤ 32) (l : i < entryCount t) where
 
       -- a logical sector n, data b, and the first t bytes of w
       module _ (n : ℕ) (b w : List ℕ) (lb : length b ≡ 512) (lw : t ≤ length w) where
+        abbrev padding : List ℕ
+        padding = replicate (tagPart t - t) 0
+
         abbrev content : List ℕ
-        content = le 8 n ++ (drop 504 b ++ take t w)
+        content = le 8 n ++ (drop 504 b ++ (take t w ++ padding))
 
         n₁ : length (part b 504 8) ≡ 8
         n₁ = length-part b 504 8 (omega arith)
@@ -77,39 +80,57 @@ module _ (t i : ℕ) (small : t ≤ 32) (l : i < entryCount t) where
         n₂ = length-take-le t w lw
 
         content-length : length content ≡ entrySize t
-        content-length = omega (arith, length-append (le 8 n) (drop 504 b ++ take t w), length-append (drop 504 b) (take t w), length-le 8 n, length-drop 504 b, n₂)
+        content-length =
+            omega (
+              arith,
+              length-append (le 8 n) (drop 504 b ++ (take t w ++ padding)),
+              length-append (drop 504 b) (take t w ++ padding),
+              length-append (take t w) padding,
+              length-replicate {A = ℕ} (tagPart t - t) 0,
+              length-le 8 n,
+              length-drop 504 b,
+              n₂,
+            )
 
         room : at + entrySize t ≤ length sec
         room = omega (arith, metadata-high, entry-end)
 
-        entry-put : (s₁ s₂ s₃ : List ℕ) → s₁ ≡ patch sec at (le 8 n) → s₂ ≡ patch s₁ (at + 8) (part b 504 8) → s₃ ≡ patch s₂ (at + 16) (take t w)
-            → s₃ ≡ patch sec at content
-        entry-put s₁ s₂ s₃ e₁ e₂ e₃ =
+        entry-put : (s₁ s₂ s₃ s₄ : List ℕ) → s₁ ≡ patch sec at (le 8 n) → s₂ ≡ patch s₁ (at + 8) (part b 504 8) → s₃ ≡ patch s₂ (at + 16) (take t w)
+            → s₄ ≡ patch s₃ (at + 16 + t) padding → s₄ ≡ patch sec at content
+        entry-put s₁ s₂ s₃ s₄ e₁ e₂ e₃ e₄ =
             let n₃ : length (le 8 n ++ part b 504 8) ≡ 16 = omega (arith, length-append (le 8 n) (part b 504 8), length-le 8 n, n₁) in
+            let n₄ : length ((le 8 n ++ part b 504 8) ++ take t w) ≡ 16 + t = omega (arith, length-append (le 8 n ++ part b 504 8) (take t w), n₂) in
             let two : s₂ ≡ patch sec at (le 8 n ++ part b 504 8) =
             behind sec at (at + 8) (le 8 n) (part b 504 8) s₁ s₂ (omega (arith, length-le 8 n)) (omega (arith, length-le 8 n, n₁, room)) e₁ e₂ in
+            let three : s₃ ≡ patch sec at ((le 8 n ++ part b 504 8) ++ take t w) =
+            behind sec at (at + 16) (le 8 n ++ part b 504 8) (take t w) s₂ s₃ (omega arith) (omega (arith, n₂, room)) two e₃ in
             let last : part b 504 8 ≡ drop 504 b = take-all 8 (drop 504 b) (omega (arith, length-drop 504 b)) in
-            behind sec at (at + 16) (le 8 n ++ part b 504 8) (take t w) s₂ s₃ (omega arith) (omega (arith, n₂, room)) two e₃
-            ∙ ap (patch sec at) (append-assoc (le 8 n) (part b 504 8) (take t w) ∙ ap (λ (x : List ℕ). le 8 n ++ (x ++ take t w)) last)
+            behind sec at (at + 16 + t) ((le 8 n ++ part b 504 8) ++ take t w) padding s₃ s₄ (omega arith)
+            (omega (arith, length-replicate {A = ℕ} (tagPart t - t) 0, room)) three e₄
+            ∙ ap (patch sec at)
+            (append-assoc (le 8 n ++ part b 504 8) (take t w) padding ∙ append-assoc (le 8 n) (part b 504 8) (take t w ++ padding)
+            ∙ ap (λ (x : List ℕ). le 8 n ++ (x ++ (take t w ++ padding))) last)
 
-        pub put-all : (s₁ s₂ s₃ s₄ : List ℕ) → s₁ ≡ patch sec at (le 8 n) → s₂ ≡ patch s₁ (at + 8) (part b 504 8) → s₃ ≡ patch s₂ (at + 16) (take t w)
-            → s₄ ≡ patch s₃ ((8 + i) * 512) (take 504 b) → s₄ ≡ putEntry t sec i (record { sector = n; bytes = b; tag = take t w })
-        put-all s₁ s₂ s₃ s₄ e₁ e₂ e₃ e₄ =
+        pub put-all : (p : ℕ) → p ≡ tagPart t - t → (s₁ s₂ s₃ s₄ s₅ : List ℕ) → s₁ ≡ patch sec at (le 8 n) → s₂ ≡ patch s₁ (at + 8) (part b 504 8) → s₃ ≡ patch s₂ (at + 16) (take t w)
+            → s₄ ≡ patch s₃ (at + 16 + t) (replicate p 0) → s₅ ≡ patch s₄ ((8 + i) * 512) (take 504 b)
+            → s₅ ≡ putEntry t sec i (record { sector = n; bytes = b; tag = take t w })
+        put-all p q s₁ s₂ s₃ s₄ s₅ e₁ e₂ e₃ given e₅ =
+            let e₄ : s₄ ≡ patch s₃ (at + 16 + t) padding = given ∙ ap (λ (k : ℕ). patch s₃ (at + 16 + t) (replicate k 0)) q in
             let new : List ℕ = patch (sectorAt sec (metadataOf t i)) (entryOffset t i) content in
             let old-length : length (sectorAt sec (metadataOf t i)) ≡ 512 = length-part sec (metadataOf t i * 512) 512 (omega (arith, metadata-high)) in
             let fits : entryOffset t i + length content ≤ 512 = omega (arith, entry-end, content-length) in
             let new-length : length new ≡ 512 = length-patch (sectorAt sec (metadataOf t i)) (entryOffset t i) content (omega arith) ∙ old-length in
             let within : (metadataOf t i + 1) * 512 ≤ length sec = omega (arith, metadata-high) in
-            let third : s₃ ≡ putSector sec (metadataOf t i) new =
-            entry-put s₁ s₂ s₃ e₁ e₂ e₃ ∙ ap (λ (k : ℕ). patch sec k content) start
+            let fourth : s₄ ≡ putSector sec (metadataOf t i) new =
+            entry-put s₁ s₂ s₃ s₄ e₁ e₂ e₃ e₄ ∙ ap (λ (k : ℕ). patch sec k content) start
             ∙ sym (put-inside sec (metadataOf t i) (entryOffset t i) content fits within) in
-            let body : sectorAt s₃ (8 + i) ≡ sectorAt sec (8 + i) =
-            ap (λ (x : List ℕ). sectorAt x (8 + i)) third
+            let body : sectorAt s₄ (8 + i) ≡ sectorAt sec (8 + i) =
+            ap (λ (x : List ℕ). sectorAt x (8 + i)) fourth
             ∙ sector-put-other sec (metadataOf t i) new new-length within (8 + i) (omega (arith, metadata-high)) in
-            let same-length : length s₃ ≡ length sec = ap length (entry-put s₁ s₂ s₃ e₁ e₂ e₃) ∙ length-patch sec at content (omega (arith, room, content-length)) in
+            let same-length : length s₄ ≡ length sec = ap length (entry-put s₁ s₂ s₃ s₄ e₁ e₂ e₃ e₄) ∙ length-patch sec at content (omega (arith, room, content-length)) in
             let front : length (take 504 b) ≡ 504 = length-take-le 504 b (omega arith) in
             let z : (8 + i) * 512 ≡ (8 + i) * 512 + 0 = omega arith in
-            e₄ ∙ ap (λ (k : ℕ). patch s₃ k (take 504 b)) z
-            ∙ sym (put-inside s₃ (8 + i) 0 (take 504 b) (omega arith) (omega arith))
-            ∙ ap (λ (x : List ℕ). putSector s₃ (8 + i) (take 504 b ++ x)) (ap (λ (k : ℕ). drop (0 + k) (sectorAt s₃ (8 + i))) front ∙ ap (drop 504) body)
-            ∙ ap (λ (x : List ℕ). putSector x (8 + i) (take 504 b ++ drop 504 (sectorAt sec (8 + i)))) third
+            e₅ ∙ ap (λ (k : ℕ). patch s₄ k (take 504 b)) z
+            ∙ sym (put-inside s₄ (8 + i) 0 (take 504 b) (omega arith) (omega arith))
+            ∙ ap (λ (x : List ℕ). putSector s₄ (8 + i) (take 504 b ++ x)) (ap (λ (k : ℕ). drop (0 + k) (sectorAt s₄ (8 + i))) front ∙ ap (drop 504) body)
+            ∙ ap (λ (x : List ℕ). putSector x (8 + i) (take 504 b ++ drop 504 (sectorAt sec (8 + i)))) fourth

@@ -103,15 +103,17 @@ pub fn entry_data(section: &[u8], t: usize, i: usize, bytes: &mut [u8])
     octets::copy_at(bytes, ID_AT, section, at + LAST_AT, SECTOR_SIZE - ID_AT);
 }
 
-// Puts an entry in as entry i: a logical sector, its data, and the first T bytes of `tag`.
+// Puts an entry in as entry i: a logical sector, its data, and the first T bytes of `tag`, with zeros behind them to the entry's end.
 pub fn put_entry(section: &mut [u8], t: usize, i: usize, sector: usize, bytes: &[u8], tag: &[u8])
     requires { ⌜ (t ≤ mostWidth) × (i < entryCount t) × (length (now section) ≡ sectionSize t * sectorSize) × (length (now bytes) ≡ sectorSize) × (t ≤ length (now tag)) ⌝ }
     ensures { λ r. ⌜ now (section .exit) ≡ putEntry t (now (section .entry)) i (record { sector = sector; bytes = now (bytes .entry); tag = take t (now (tag .entry)) }) ⌝ }
 {
     let at = entry_at(t, i);
+    let padding = layout::entry_size(t) - TAG_AT - t;
     octets::put_number(section, at, NUMBER_SIZE, sector as u64);
     octets::copy_at(section, at + LAST_AT, bytes, ID_AT, SECTOR_SIZE - ID_AT);
     octets::copy_at(section, at + TAG_AT, tag, 0, t);
+    octets::fill_at(section, at + TAG_AT + t, padding, 0);
     octets::copy_at(section, (METADATA_SIZE + i) * SECTOR_SIZE, bytes, 0, ID_AT);
 }
 
@@ -156,7 +158,7 @@ pub fn clear_section(section: &mut [u8], t: usize)
 // How many there are, whatever the section's number.
 pub fn stores_in(g: Layout, section: &[u8]) -> usize
     requires { ⌜ (layoutOk g ≡ true) × (length (now section) ≡ sectionSize (g .width) * sectorSize) ⌝ }
-    ensures { λ r. ⌜ ((k : ℕ) → r ≡ storesOf g (usedOf (g .width) k (now (section .entry)))) × (r ≤ 496) ⌝ }
+    ensures { λ r. ⌜ ((k : ℕ) → r ≡ storesOf g (usedOf (g .width) k (now (section .entry)))) × (r ≤ 744) ⌝ }
 {
     let count = layout::entry_count(g.width);
     let mut stores = 0;

@@ -6,19 +6,20 @@ use model::State;
 use on_disk::Layout;
 ghost use mathlib.Core.Bool.{true, _&&_};
 ghost use mathlib.Core.Path.{_≡_};
-ghost use Prim.Native.Nat.{_*_, _≤_};
+ghost use Prim.Native.Nat.{_*_, _≤_, _<_};
 ghost use lib.Dec.{leb};
 ghost use lib.ListN.{length};
 ghost use Rattle.octets.specs.Sectors.{sectorSize};
-ghost use Rattle.on_disk.specs.Layout.{needed, layoutOk};
+ghost use Rattle.on_disk.specs.Layout.{entryCount, sectionSize, needed, layoutOk};
+ghost use Rattle.on_disk.specs.Section.{entryOf};
 ghost use Rattle.model.specs.Journal.{replay};
-ghost use Rattle.model.specs.Store.{stepsOf};
-ghost use Rattle.model.specs.State.{placeOk, stateOk, stagingOk, volumeLoanOk, volumeOk, isFilling, isRecovering};
+ghost use Rattle.model.specs.Store.{homeCount, stepsOf};
+ghost use Rattle.model.specs.State.{placeOk, stateOk, stagingOk, stagedOk, volumeLoanOk, volumeOk, isFilling, isRecovering};
 
 // No commit may be given this id.
 pub const LAST_ID: u64 = 18446744073709551615;
 
-// Whether the place of a phase exists, as far as no volume is needed.
+// Whether the place of a phase exists, as far as neither volume nor staging is needed: of an entry, three stores.
 fn place_ok(g: Layout, count: usize, id: u64, p: Phase) -> bool
     requires { ⌜ layoutOk g ≡ true ⌝ }
     ensures { λ r. ⌜ r ≡ placeOk g count id p ⌝ }
@@ -32,7 +33,7 @@ fn place_ok(g: Layout, count: usize, id: u64, p: Phase) -> bool
     }
 }
 
-// Whether a state is sound, as far as no volume is needed.
+// Whether a state is sound, as far as neither is needed.
 pub fn state_ok(s: State) -> bool
     ensures { λ r. ⌜ r ≡ stateOk s ⌝ }
 {
@@ -74,6 +75,32 @@ pub fn is_recovering(p: Phase) -> bool
         Phase::WritingBack(_, _) => false,
         Phase::Recovering(_) => true,
     }
+}
+
+// Whether st is a staging loan of its length, in which the place of a sound state exists: a third store only for an entry whose tag crosses.
+pub fn staged_ok(s: State, st: &[u8]) -> bool
+    requires { ⌜ stateOk s ≡ true ⌝ }
+    ensures { λ r. ⌜ r ≡ stagedOk s (now (st .entry)) ⌝ }
+{
+    let g = s.layout;
+    if !staging_ok(g, st) {
+        return false;
+    }
+    let p = s.phase;
+    match p {
+        Phase::Filling => true,
+        Phase::Committing(_) => true,
+        Phase::WritingBack(i, h) => h < staged_stores(g, st, i),
+        Phase::Recovering(_) => true,
+    }
+}
+
+// How many stores bring staged entry i home.
+fn staged_stores(g: Layout, st: &[u8], i: usize) -> usize
+    requires { ⌜ (layoutOk g ≡ true) × (i < entryCount (g .width)) × (length (now st) ≡ sectionSize (g .width) * sectorSize) ⌝ }
+    ensures { λ r. ⌜ r ≡ homeCount g (entryOf (g .width) (now (st .entry)) i) ⌝ }
+{
+    layout::home_stores(g, section::entry_sector(st, g.width, i))
 }
 
 // Whether v is a volume that the layout fits.

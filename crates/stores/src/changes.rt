@@ -1,5 +1,6 @@
-// The bytes that a store changes: of a data sector all, of a sector with tags one tag. To store them alone leaves the same volume, and moves less. For the
+// The bytes that a store changes: of a data sector all, of a sector with tags those of one tag. To store them alone leaves the same volume, and moves less. For the
 // crates of this repository, as the stores themselves.
+use crate::tags;
 use layout::SECTOR_SIZE;
 use on_disk::Layout;
 ghost use mathlib.Core.List.{List};
@@ -40,9 +41,10 @@ pub fn home_part(
         };
     }
     let tag = section::entry_tag(section, g.width, i);
-    octets::copy_at(out, 0, tag, 0, g.width);
+    let p = tags::tag_part(g, sector, h);
+    octets::copy_at(out, 0, tag, p.from, p.size);
     Part {
-        byte: layout::tag_byte(g, sector),
-        size: g.width,
+        byte: p.byte,
+        size: p.size,
     }
 }

@@ -4,20 +4,21 @@
 // These are functions for the crates of this repository, which test the state, the loans and the entry's sector first: so each has a `requires`, and
 // every caller shows it.
 pub mod changes;
+pub mod tags;
 
+use crate::tags::TagPart;
 use layout::SECTOR_SIZE;
 use model::State;
 use on_disk::Layout;
 use section::ID_AT;
 use section::NUMBER_SIZE;
-ghost use mathlib.Core.Bool.{true};
 ghost use mathlib.Core.List.{List};
 ghost use mathlib.Core.Path.{_≡_};
-ghost use Prim.Native.Nat.{ℕ, _*_, _≤_, _<_};
+ghost use Prim.Native.Nat.{ℕ, _+_, _*_, _/_, _%_, _≤_};
 ghost use lib.ListN.{length};
-ghost use Rattle.octets.specs.Parts.{patch};
+ghost use Rattle.octets.specs.Parts.{part, patch};
 ghost use Rattle.octets.specs.Sectors.{sectorSize, sectorAt};
-ghost use Rattle.on_disk.specs.Layout.{tagSector, tagOffset, needed, layoutOk};
+ghost use Rattle.on_disk.specs.Layout.{needed};
 ghost use Rattle.on_disk.specs.Section.{entryOf};
 ghost use Rattle.model.specs.Store.{homeStore};
 ghost use Rattle.model.specs.JournalStep.{commitStore};
@@ -34,19 +35,19 @@ pub fn commit_store(s: State, st: &[u8], j: usize, out: &mut [u8]) -> usize
     layout::section_at(g, journal::journal::section_for(g, s.id)) + j
 }
 
-// The sector with the tag of a logical sector: the volume's, with only that tag replaced, so that the neighbours' tags stay.
-fn tag_store(v: &[u8], g: Layout, sector: usize, tag: &[u8], out: &mut [u8]) -> usize
-    requires { ⌜ (layoutOk g ≡ true) × (needed g * sectorSize ≤ length (now v)) × (sector < g .provided) × (length (now tag) ≡ g .width) × (length (now out) ≡ sectorSize) ⌝ }
-    ensures { λ r. ⌜ (r ≡ tagSector g sector) × (now (out .exit) ≡ patch (sectorAt (now (v .entry)) (tagSector g sector)) (tagOffset g sector) (now (tag .entry))) ⌝ }
+// The sector with some bytes of a tag: the volume's, with only these replaced, so that the neighbours' tags stay.
+fn tag_store(v: &[u8], tag: &[u8], p: TagPart, out: &mut [u8]) -> usize
+    requires { ⌜ ((p .byte / sectorSize + 1) * sectorSize ≤ length (now v)) × (p .byte % sectorSize + p .size ≤ sectorSize) × (p .from + p .size ≤ length (now tag)) × (length (now out) ≡ sectorSize) ⌝ }
+    ensures { λ r. ⌜ (r ≡ p .byte / sectorSize) × (now (out .exit) ≡ patch (sectorAt (now (v .entry)) (p .byte / sectorSize)) (p .byte % sectorSize) (part (now (tag .entry)) (p .from) (p .size))) ⌝ }
 {
-    let byte = layout::tag_byte(g, sector);
-    let at = byte / SECTOR_SIZE;
+    let at = p.byte / SECTOR_SIZE;
     octets::copy_at(out, 0, v, at * SECTOR_SIZE, SECTOR_SIZE);
-    octets::copy_at(out, byte % SECTOR_SIZE, tag, 0, g.width);
+    octets::copy_at(out, p.byte % SECTOR_SIZE, tag, p.from, p.size);
     at
 }
 
-// Store h of those that bring entry i of a section home, be it staging or a section of the journal: its data sector, then the sector with its tag.
+// Store h of those that bring entry i of a section home, be it staging or a section of the journal: its data sector, then the sector in which its tag begins,
+// then the next one, if the tag goes on in it.
 pub fn home_store(
     v: &[u8],
     g: Layout,
@@ -64,5 +65,5 @@ pub fn home_store(
         return layout::data_at(g, sector);
     }
     let tag = section::entry_tag(section, g.width, i);
-    tag_store(v, g, sector, tag, out)
+    tag_store(v, tag, tags::tag_part(g, sector, h), out)
 }

@@ -105,7 +105,7 @@ module _ (last next : Advanced) (x : Stepped) (e : next ≡ stepAdded last x) (v
 
 -- the store that x names leaves the volume's length and its front as they were
 module _ (g : Layout) (ok : layoutOk g ≡ true) (v : List ℕ) (room : needed g * 512 ≤ length v) (x : Location) (l : x .section < g .sections) (h : x .entry < entryCount (g .width))
-    (half : x .store < homeCount g (entryOf (g .width) (sectionOf g v (x .section)) (x .entry))) where
+    (one-of : x .store < homeCount g (entryOf (g .width) (sectionOf g v (x .section)) (x .entry))) where
   abbrev entry : Entry
   entry = entryOf (g .width) (sectionOf g v (x .section)) (x .entry)
 
@@ -120,10 +120,10 @@ module _ (g : Layout) (ok : layoutOk g ≡ true) (v : List ℕ) (room : needed g
 
   module _ (low : entry .sector < g .provided) (v′ : List ℕ) (home : v′ ≡ made v (homeStore g v entry (x .store))) where
     length-same : length v ≡ length v′
-    length-same = sym (ap length home ∙ home-length g (ranged g ok) (tagOf (g .width)) v room entry low whole sized (x .store) half)
+    length-same = sym (ap length home ∙ home-length g (ranged g ok) (tagOf (g .width)) v room entry low whole sized (x .store) one-of)
 
     front-same : front g v ≡ front g v′
-    front-same = sym (ap (front g) home ∙ home-front g (ranged g ok) (tagOf (g .width)) v room entry low whole sized (x .store) half)
+    front-same = sym (ap (front g) home ∙ home-front g (ranged g ok) (tagOf (g .width)) v room entry low whole sized (x .store) one-of)
 
 -- ---- a recovery
 
@@ -236,7 +236,7 @@ module _ {b : Advanced} {v₀ : List ℕ} {k : ℕ} {ids : List ℕ} {i at : ℕ
     pub there : (k + i < stepsOf g (replay g v)) × Locates g (sectionOf g v (x .section)) x (entryStoreAt g v (k + i))
     there = step-located g v ok (k + i) x (u .next) l
 
-    pub low : k + i < 31744
+    pub low : k + i < 47616
     low = omega (arith, there .0, steps-high g v ok)
 
     -- what replayed_part asks for

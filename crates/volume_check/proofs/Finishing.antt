@@ -20,13 +20,13 @@ use Rattle.on_disk.specs.declared.Layout.{Layout}
 use Rattle.model.specs.declared.Phase.{Phase}
 use Rattle.model.specs.declared.Phase.the-variants.{Filling, Recovering}
 use Rattle.model.specs.declared.State.{State}
-use Rattle.on_disk.specs.Layout.{entryCount, sectionSize, dataAt, needed, layoutOk}
+use Rattle.on_disk.specs.Layout.{entryCount, sectionSize, dataAt, crosses, needed, layoutOk}
 use Rattle.on_disk.specs.Section.{emptySection}
 use Rattle.model.specs.Journal.{greatestId, Replayed, replay}
 use Rattle.on_disk.specs.Superblock.{superblockAt, layoutIn}
 use Rattle.model.specs.Store.{made, homeCount, homeStore, storeOf, storesOfEntry, entryStores, storesOf, RecoveryStep, storing, recoverySteps, stepsOf, noStore, recoveryStepAt}
 use Rattle.model.specs.Tag.{Tag, Tags, tagOf, tagAt}
-use Rattle.model.specs.State.{Verdict, passed, placeOk, replayOk, volumeLoanOk, stateOk, volumeOk, stagingOk, isFilling}
+use Rattle.model.specs.State.{Verdict, passed, placeOk, replayOk, volumeLoanOk, stateOk, volumeOk, stagingOk, storeOk, stagedOk, isFilling}
 use Rattle.model.specs.Open.{openRows, entriesVerdict, phaseFor, openedState, OpenResult, openBy, openWith, openOf}
 use Rattle.model.specs.Step.{recoveryRow, stepBy, stepOf}
 use Rattle.model.specs.JournalStep.{homeStep, recoverAt}
@@ -37,18 +37,19 @@ use Rattle.on_disk.proofs.Addresses.{Ranged, ranged}
 use Rattle.model.proofs.Homes.{home-length, home-front}
 use Rattle.model.proofs.Invariant.{stateAt}
 use Rattle.model.proofs.Journals.{Every, front, replay-kept}
-use Rattle.model.proofs.Plans.{length-stores, home-two, steps-stores}
+use Rattle.model.proofs.Plans.{length-stores, steps-stores}
+use Rattle.model.proofs.States.{staged-in}
 use Rattle.model.proofs.Entries.{Complete, replay-complete, StepFor, step-every}
 use Rattle.on_disk.proofs.Sections.{per-pos, length-empty}
 use Rattle.layout.proofs.Sizes.{width-high}
 use Rattle.volume_open.proofs.Queries.{valid-layout}
 use Rattle.volume_step.proofs.Steps.{in-phase}
 use Rattle.volume_check.specs.Check.{RecoverResult, recovered, recoverFrom, recoverOf, isBad}
-use Rattle.volume_check.specs.Finishes.{EndsAfter, Ends, BadMeansTag, Finished, Finishes}
+use Rattle.volume_check.specs.Finishes.{storeSum, EndsAfter, Ends, BadMeansTag, Finished, Finishes}
 
 -- ---- entries to be replayed
 
--- a complete one for a sector that the volume provides: two stores bring it home
+-- a complete one for a sector that the volume provides
 record Sound (g : Layout) (x : Replayed) : Type 0 where
   low : x .entry .sector < g .provided
   complete : Complete g x
@@ -66,14 +67,16 @@ entries-sound tag g (x ∷ xs) p e =
     go ih false l true e = absurd (refused-not-taken _ tt e)
     go ih false l false e = (record { low = leb-false (g .provided) (x .entry .sector) l; complete = p .0 }, ih e)
 
--- two stores to an entry
-stores-twice : (g : Layout) (xs : List Replayed) → storesOf g xs ≡ 2 * length xs
-stores-twice g [] = refl
-stores-twice g (x ∷ xs) =
-    omega (arith, length-append (storesOfEntry g x) (entryStores g xs), length-stores g x, home-two g (x .entry), stores-twice g xs)
+-- two or three stores to an entry
+stores-sum : (g : Layout) (xs : List Replayed) → storesOf g xs ≡ storeSum g xs
+unfolding homeCount
+stores-sum g [] = refl
+stores-sum g (x ∷ xs) =
+    let one : length (storesOfEntry g x) ≡ pick (crosses g (x .entry .sector)) 3 2 = length-stores g x in
+    omega (arith, length-append (storesOfEntry g x) (entryStores g xs), one, stores-sum g xs)
 
-steps-twice : (g : Layout) (xs : List Replayed) → stepsOf g xs ≡ 2 * length xs
-steps-twice g xs = steps-stores g xs ∙ stores-twice g xs
+steps-sum : (g : Layout) (xs : List Replayed) → stepsOf g xs ≡ storeSum g xs
+steps-sum g xs = steps-stores g xs ∙ stores-sum g xs
 
 -- ---- the steps of a recovery
 
@@ -115,6 +118,9 @@ module _ (g : Layout) (ok : layoutOk g ≡ true) (v₀ : List ℕ) (loan : volum
   unfolding stagingOk
   staging-ok = eq-eqb (length empty) (sectionSize (g .width) * 512) (length-empty (g .width) (per-pos (g .width) (omega (arith, width-high g ok))))
 
+  staged-ok : (p : Phase) → storeOk g empty p ≡ true → stagedOk (inState p) empty ≡ true
+  staged-ok p e = staged-in (inState p) empty p refl staging-ok e
+
   row-passes : (p : RecoveryStep) → StepFor g (Sound g) p → firstMet (recoveryRow g p ∷ []) passed ≡ passed
   row-passes (storing (storeOf x h)) s = rw (lt-leb (g .provided) (x .entry .sector) (s .0 .low))
 
@@ -136,7 +142,7 @@ module _ (g : Layout) (ok : layoutOk g ≡ true) (v₀ : List ℕ) (loan : volum
 
     steps : stepOf here v empty ≡ recoverAt here v empty i (recoveryStepAt g v i)
     steps =
-        in-phase here v empty (state-ok (Recovering i) refl) (volume-ok (Recovering i) v (R .sized) (lt-ltb i (stepsOf g (replay g v)) present)) staging-ok (Recovering i) refl
+        in-phase here v empty (state-ok (Recovering i) refl) (volume-ok (Recovering i) v (R .sized) (lt-ltb i (stepsOf g (replay g v)) present)) (staged-ok (Recovering i) refl) (Recovering i) refl
         ∙ ap (stepBy here v empty) (row-passes (recoveryStepAt g v i) place)
 
     state-here : o .state ≡ here
@@ -152,7 +158,7 @@ module _ (g : Layout) (ok : layoutOk g ≡ true) (v₀ : List ℕ) (loan : volum
         ap (λ (b : Bool). pick b Filling (Recovering (i + 1))) (q ∙ ap (λ (xs : List Replayed). eqb (i + 1) (stepsOf g xs)) replayed)
         ∙ ap phaseAfter (add-one i)
 
-    module _ (x : Replayed) (h : ℕ) (s : Sound g x) (half : h < homeCount g (x .entry)) where
+    module _ (x : Replayed) (h : ℕ) (s : Sound g x) (one-of : h < homeCount g (x .entry)) where
       store-reached : (y : AdvanceResult) → y .done ≡ o .done + 1 → y .state ≡ inState (phaseAfter (suc i))
           → y .volume ≡ made v (homeStore g v (x .entry) h) → y .staging ≡ empty → Reached (suc i) y
       store-reached y count state volume staging =
@@ -161,9 +167,9 @@ module _ (g : Layout) (ok : layoutOk g ≡ true) (v₀ : List ℕ) (loan : volum
           record {
             done = omega (arith, R .done);
             state = state;
-            sized = ap length volume ∙ home-length g R′ tag v room-here (x .entry) (s .low) (s .complete .whole) (s .complete .sized) h half ∙ R .sized;
+            sized = ap length volume ∙ home-length g R′ tag v room-here (x .entry) (s .low) (s .complete .whole) (s .complete .sized) h one-of ∙ R .sized;
             fronts = ap (front g) volume
-                ∙ home-front g R′ tag v room-here (x .entry) (s .low) (s .complete .whole) (s .complete .sized) h half ∙ R .fronts;
+                ∙ home-front g R′ tag v room-here (x .entry) (s .low) (s .complete .whole) (s .complete .sized) h one-of ∙ R .fronts;
             staging = staging;
           }
 
@@ -221,7 +227,7 @@ module _ (g : Layout) (ok : layoutOk g ≡ true) (v₀ : List ℕ) (loan : volum
     by-tag : (b : List ℕ) → length b ≡ 512 → readOf tagOf (inState Filling) v empty i b ≡ readWith b fits
     unfolding readOf
     by-tag b z =
-        rw (state-ok Filling refl, volume-ok Filling v sized refl, staging-ok, eq-eqb (length b) 512 z, lt-leb (g .provided) i low)
+        rw (state-ok Filling refl, volume-ok Filling v sized refl, staged-ok Filling refl, eq-eqb (length b) 512 z, lt-leb (g .provided) i low)
 
     bad-by-tag : isBad (inState Filling) v empty i ≡ not fits
     unfolding isBad
@@ -317,13 +323,13 @@ module _ (tags : Tags) (r : ℕ) (v st : List ℕ) where
       go (refused x) e = absurd (refused-not-taken x (s, n) e)
 
   open-counts : (s : State) (n : ℕ) → openOf tags r v st .answer ≡ taken (s, n)
-      → (n ≡ 2 * length (replay (s .layout) v)) × EndsAfter n s v (openOf tags r v st .staging)
+      → (n ≡ storeSum (s .layout) (replay (s .layout) v)) × EndsAfter n s v (openOf tags r v st .staging)
   open-counts s n e =
       let p : verdict ≡ passed = opened-passed s n e in
       let a = taken-same (s, n) (openedState g v, stepsOf g (replay g v)) (sym e ∙ ap (λ (o : OpenResult). o .answer) (opens p)) in
       let es : s ≡ openedState g v = ap (λ (x : State × ℕ). x .0) a in
       let en : n ≡ stepsOf g (replay g v) = ap (λ (x : State × ℕ). x .1) a in
-      rw (es, en, opens p) (steps-twice g (replay g v), open-ends p)
+      rw (es, en, opens p) (steps-sum g (replay g v), open-ends p)
 
 -- ---- the claims
 

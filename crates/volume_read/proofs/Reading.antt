@@ -20,7 +20,7 @@ use Rattle.on_disk.specs.Layout.{dataAt, tagByte}
 use Rattle.on_disk.specs.Section.{entryOf}
 use Rattle.on_disk.proofs.Addresses.{and-both}
 use Rattle.model.specs.Tag.{Tags, tagAt}
-use Rattle.model.specs.State.{passed, stateOk, volumeOk, stagingOk, sectorOk, isRecovering}
+use Rattle.model.specs.State.{passed, stateOk, volumeOk, stagedOk, sectorOk, isRecovering}
 use Rattle.model.specs.Read.{newestFor, ReadResult, stagedFor, readRows, readBy, readOf}
 use Rattle.model.specs.Keyed.{readKeyedOf}
 use Rattle.model.proofs.Keyed.{keyed-calls}
@@ -49,7 +49,7 @@ fits-is q g v n d r at start end ea es ee ed er =
 
 module _ (tags : Tags) (s : State) (v st : List ℕ) (n : ℕ) (loan : List ℕ) where
   abbrev sound : Bool
-  sound = stateOk s && (volumeOk s v && (stagingOk (s .layout) st && sectorOk loan))
+  sound = stateOk s && (volumeOk s v && (stagedOk s st && sectorOk loan))
 
   pub malformed : sound ≡ false → record { answer = refuse 1 []; sector = loan } ≡ readOf tags s v st n loan
   unfolding readOf
@@ -88,30 +88,30 @@ module _ (tags : Tags) (s : State) (v st : List ℕ) (n : ℕ) (loan : List ℕ)
               ap (λ (x : List ℕ). record { answer = passed; sector = x }) (e ∙ chosen) ∙ ap (readBy tags s v st n loan) (sym rules)
 
 -- what the first check gives
-module _ (s : State) (v st loan : List ℕ) (ok : stateOk s && (volumeOk s v && (stagingOk (s .layout) st && sectorOk loan)) ≡ true) where
-  loans : volumeOk s v && (stagingOk (s .layout) st && sectorOk loan) ≡ true
-  loans = and-both (stateOk s) (volumeOk s v && (stagingOk (s .layout) st && sectorOk loan)) ok .1
+module _ (s : State) (v st loan : List ℕ) (ok : stateOk s && (volumeOk s v && (stagedOk s st && sectorOk loan)) ≡ true) where
+  loans : volumeOk s v && (stagedOk s st && sectorOk loan) ≡ true
+  loans = and-both (stateOk s) (volumeOk s v && (stagedOk s st && sectorOk loan)) ok .1
 
-  lengths : stagingOk (s .layout) st && sectorOk loan ≡ true
-  lengths = and-both (volumeOk s v) (stagingOk (s .layout) st && sectorOk loan) loans .1
+  lengths : stagedOk s st && sectorOk loan ≡ true
+  lengths = and-both (volumeOk s v) (stagedOk s st && sectorOk loan) loans .1
 
   pub state-ok : stateOk s ≡ true
-  state-ok = and-both (stateOk s) (volumeOk s v && (stagingOk (s .layout) st && sectorOk loan)) ok .0
+  state-ok = and-both (stateOk s) (volumeOk s v && (stagedOk s st && sectorOk loan)) ok .0
 
   pub volume-ok : volumeOk s v ≡ true
-  volume-ok = and-both (volumeOk s v) (stagingOk (s .layout) st && sectorOk loan) loans .0
+  volume-ok = and-both (volumeOk s v) (stagedOk s st && sectorOk loan) loans .0
 
-  pub staging-ok : stagingOk (s .layout) st ≡ true
-  staging-ok = and-both (stagingOk (s .layout) st) (sectorOk loan) lengths .0
+  pub staged-ok : stagedOk s st ≡ true
+  staged-ok = and-both (stagedOk s st) (sectorOk loan) lengths .0
 
   pub sector-length : length loan ≡ 512
-  sector-length = eqb-true (length loan) 512 (and-both (stagingOk (s .layout) st) (sectorOk loan) lengths .1)
+  sector-length = eqb-true (length loan) 512 (and-both (stagedOk s st) (sectorOk loan) lengths .1)
 
 -- ---- with a key
 
 module _ (key : List ℕ) (s : State) (v st : List ℕ) (n : ℕ) (loan : List ℕ) where
   abbrev checked : Bool
-  checked = stateOk s && (volumeOk s v && (stagingOk (s .layout) st && sectorOk loan))
+  checked = stateOk s && (volumeOk s v && (stagedOk s st && sectorOk loan))
 
   pub keyed-malformed : checked ≡ false → record { answer = refuse 1 []; sector = loan } ≡ readKeyedOf key s v st n loan
   unfolding readKeyedOf

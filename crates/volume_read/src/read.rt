@@ -15,7 +15,7 @@ ghost use Rattle.octets.specs.Sectors.{sectorSize};
 ghost use Rattle.on_disk.specs.Layout.{mostWidth, entryCount, sectionSize};
 ghost use Rattle.model.specs.Tag.{tagOf};
 ghost use Rattle.model.specs.Refusal.{readAnswer};
-ghost use Rattle.model.specs.State.{stateOk, volumeOk, stagingOk, sectorOk};
+ghost use Rattle.model.specs.State.{stateOk, volumeOk, stagedOk, sectorOk};
 ghost use Rattle.model.specs.Read.{newestFor, readOf};
 ghost use Rattle.model.specs.Keyed.{readKeyedOf};
 ghost use Rattle.sound.specs.Rule.{tagBy};
@@ -35,22 +35,21 @@ fn newest_for(st: &[u8], t: usize, c: usize, sector: usize) -> usize
     c
 }
 
-// The first check: whether the state is sound, the volume one that it fits, and each other loan of its length.
+// The first check: whether the state is sound, on the lent volume and staging too, and each loan of its length.
 fn loans_ok(s: State, v: &[u8], st: &[u8], bytes: &[u8]) -> bool
-    ensures { λ r. ⌜ r ≡ stateOk s && (volumeOk s (now (v .entry)) && (stagingOk (s .layout) (now (st .entry)) && sectorOk (now (bytes .entry)))) ⌝ }
+    ensures { λ r. ⌜ r ≡ stateOk s && (volumeOk s (now (v .entry)) && (stagedOk s (now (st .entry)) && sectorOk (now (bytes .entry)))) ⌝ }
 {
     if !state::state_ok(s) {
         return false;
     }
-    let g = s.layout;
     let volume = state::volume_ok(s, v);
-    let staging = state::staging_ok(g, st);
+    let staging = state::staged_ok(s, st);
     volume & (staging & (bytes.len() == SECTOR_SIZE))
 }
 
 // Reads by any rule, behind the first check.
 fn read_by(rule: Rule, s: State, v: &[u8], st: &[u8], sector: usize, bytes: &mut [u8]) -> ReadAnswer
-    requires { ⌜ stateOk s && (volumeOk s (now v) && (stagingOk (s .layout) (now st) && sectorOk (now bytes))) ≡ true ⌝ }
+    requires { ⌜ stateOk s && (volumeOk s (now v) && (stagedOk s (now st) && sectorOk (now bytes))) ≡ true ⌝ }
     ensures { λ r. ⌜ record { answer = readAnswer r; sector = now (bytes .exit) } ≡ readOf (tagBy rule) s (now (v .entry)) (now (st .entry)) sector (now (bytes .entry)) ⌝ }
 {
     let g = s.layout;

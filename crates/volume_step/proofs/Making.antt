@@ -2,7 +2,7 @@
 use Prim.Native.Nat.{ℕ, _+_, _*_, _≤_, _<_}
 use mathlib.Core.Bool.{Bool, true, false}
 use mathlib.Core.List.{List, []}
-use mathlib.Core.Path.{_≡_, sym, ap, _∙_, subst}
+use mathlib.Core.Path.{_≡_, refl, sym, ap, _∙_, subst}
 use native.Mathlib.Omega.{arith}
 use lib.Dec.{ltb}
 use lib.ListN.{length, getD}
@@ -26,6 +26,7 @@ use Rattle.model.specs.State.{stateOk, volumeOk, stagingOk}
 use Rattle.model.specs.Step.{stepOf}
 use Rattle.model.specs.StepResult.{StepResult}
 use Rattle.model.specs.NextStore.{nextStoreOf, storeNamed, Within, sectorNamed, sectorStored, StepStores}
+use Rattle.model.proofs.States.{staged-in}
 use Rattle.model.proofs.NextStore.{step-stores}
 use Rattle.section.specs.declared.Location.{Location}
 use Rattle.section.specs.Locations.{Locates}
@@ -98,7 +99,7 @@ module _ (s : State) (v st : List ℕ) (sound : stateOk s ≡ true) (fits : volu
 
     pub place-made : (more : Bool) → more ≡ ltb (k + 1) (stepsOf (s .layout) (replay (s .layout) v)) → o ≡ storedInRecovery s at (k + 1) more → Leaves v (stepOf s v st) o v′ st
     place-made more q e =
-        let filled = place-told s v st [] sound fits staging k phase x found n en low at (home .content) (λ i. record { at = made-home .0 i; content = home .content }) o more q e in
+        let filled = place-told s v st [] sound fits (staged-in s st (Recovering k) phase staging refl) k phase x found n en low at (home .content) (λ i. record { at = made-home .0 i; content = home .content }) o more q e in
         record {
           answer = filled .answer;
           state = filled .state;

@@ -25,7 +25,7 @@ use Rattle.on_disk.specs.Layout.{sectionSize}
 use Rattle.on_disk.specs.Section.{Entry, entryOf, emptySection}
 use Rattle.model.specs.Journal.{sectionOf, replay}
 use Rattle.model.specs.Store.{Store, one, homeCount, homeStore, RecoveryStep, storing, stepsOf, recoveryStepAt}
-use Rattle.model.specs.State.{passed, stateOk, volumeOk, stagingOk, inPhase}
+use Rattle.model.specs.State.{passed, stateOk, volumeOk, stagedOk, inPhase}
 use Rattle.model.specs.Step.{rangeRows, phaseStep, stepBy, stepOf}
 use Rattle.model.specs.JournalStep.{commitStore, commitStep, homeStep, writeBackStep, recoverAt}
 use Rattle.model.specs.StepResult.{StepResult}
@@ -73,7 +73,7 @@ module _ (s : State) (v st out : List ℕ) (j at : ℕ) (out′ : List ℕ) (is 
 
 -- ---- a call that is refused, and one that is not
 
-module _ (s : State) (v st : List ℕ) (sound : stateOk s ≡ true) (fits : volumeOk s v ≡ true) (staging : stagingOk (s .layout) st ≡ true) where
+module _ (s : State) (v st : List ℕ) (sound : stateOk s ≡ true) (fits : volumeOk s v ≡ true) (staging : stagedOk s st ≡ true) where
   tested : stepOf s v st ≡ stepBy s v st (firstMet (rangeRows s v st (s .phase)) passed)
   unfolding stepOf
   tested = rw (sound, fits, staging)
@@ -105,7 +105,7 @@ module _ (s : State) (v st out : List ℕ) where
   unfolding stepOf
   wrong-volume o r sound e = rw (sound, e) (kept o Malformed r)
 
-  pub wrong-staging : (o : Stepped) → Refuses o Malformed → stateOk s ≡ true → stagingOk (s .layout) st ≡ false → Fills out (stepOf s v st) o out st
+  pub wrong-staging : (o : Stepped) → Refuses o Malformed → stateOk s ≡ true → stagedOk s st ≡ false → Fills out (stepOf s v st) o out st
   unfolding stepOf
   wrong-staging o r sound e = rw (sound, e, neither (volumeOk s v)) (kept o Malformed r)
     where
@@ -113,7 +113,7 @@ module _ (s : State) (v st out : List ℕ) where
       neither true = refl
       neither false = refl
 
-  module _ (sound : stateOk s ≡ true) (fits : volumeOk s v ≡ true) (staging : stagingOk (s .layout) st ≡ true) where
+  module _ (sound : stateOk s ≡ true) (fits : volumeOk s v ≡ true) (staging : stagedOk s st ≡ true) where
     out-of-range : (p : Phase) → s .phase ≡ p → (r : Refusal) → firstMet (rangeRows s v st p) passed ≡ refused (refusalOf r) → (o : Stepped) → Refuses o r
         → Fills out (stepOf s v st) o out st
     out-of-range p q r u o e = subst (λ (x : StepResult). Fills out x o out st) (sym (in-phase s v st sound fits staging p q ∙ ap (stepBy s v st) u)) (kept o r e)

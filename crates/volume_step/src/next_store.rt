@@ -21,7 +21,7 @@ ghost use lib.Dec.{leb};
 ghost use lib.ListN.{length};
 ghost use Rattle.octets.specs.Sectors.{sectorSize};
 ghost use Rattle.on_disk.specs.Layout.{needed};
-ghost use Rattle.model.specs.State.{lastId, volumeLoanOk, stateOk, volumeOk, stagingOk};
+ghost use Rattle.model.specs.State.{lastId, volumeLoanOk, stateOk, volumeOk, stagingOk, stagedOk};
 ghost use Rattle.model.specs.Step.{stepOf};
 ghost use Rattle.model.specs.JournalStep.{commitStep};
 ghost use Rattle.model.specs.NextStore.{nextStoreOf};
@@ -52,7 +52,7 @@ fn commit_step(s: State, st: &[u8], j: usize, out: &mut [u8]) -> Stepped
 
 // Store h of staged entry i; after the last of all staging is empty and the volume is filling.
 fn write_back_step(s: State, v: &[u8], st: &mut [u8], i: usize, h: usize, out: &mut [u8]) -> Stepped
-    requires { ⌜ (stateOk s ≡ true) × (volumeOk s (now v) ≡ true) × (stagingOk (s .layout) (now st) ≡ true) × (s .phase ≡ Phase.WritingBack i h) × (length (now out) ≡ sectorSize) ⌝ }
+    requires { ⌜ (stateOk s ≡ true) × (volumeOk s (now v) ≡ true) × (stagedOk s (now st) ≡ true) × (s .phase ≡ Phase.WritingBack i h) × (length (now out) ≡ sectorSize) ⌝ }
     ensures { λ r. ⌜ Fills (now (out .entry)) (stepOf s (now (v .entry)) (now (st .entry))) r (now (out .exit)) (now (st .exit)) ⌝ }
 {
     let g = s.layout;
@@ -102,7 +102,7 @@ pub fn next_store(s: State, v: &[u8], st: &mut [u8], out: &mut [u8]) -> Stepped
     if !state::layout_fits(g, v) {
         return answers::refuse(s, Refusal::Malformed);
     }
-    if !state::staging_ok(g, st) {
+    if !state::staged_ok(s, st) {
         return answers::refuse(s, Refusal::Malformed);
     }
     let p = s.phase;

@@ -5,7 +5,7 @@ use borrow.Author.Needs.{needs}
 use Rattle.octets.proofs.Parts.{length-part}
 use Rattle.volume_read.proofs.Reading.{fits-is}
 use Rattle.layout.proofs.Sizes.{width-high, provided-high}
-use Rattle.on_disk.proofs.Addresses.{ranged, data-room, tag-room, tag-inside, tag-sector}
+use Rattle.on_disk.proofs.Addresses.{ranged, data-room, tag-end}
 use Rattle.volume_read.proofs.fits.tag_fits.Statement.{statement}
 use Rattle.volume_read.proofs.fits.tag_fits.Tie as tie
 
@@ -24,7 +24,7 @@ tag-byte-requires : tie.Need-tag-byte-requires
 tag-byte-requires c κs = (c .before .before .before .before .pre .0, omega (arith, provided-high (c .before .before .before .before .args .g) (c .before .before .before .before .pre .0)))
 
 same-at-requires : tie.Need-same-at-requires
-same-at-requires c κs = omega (arith, c .before .tag-byte .ensures .0, c .before .before .tag .ensures .1, width-high (c .before .before .before .before .before .before .args .g) (c .before .before .before .before .before .before .pre .0), tag-room (c .before .before .before .before .before .before .args .g) (ranged (c .before .before .before .before .before .before .args .g) (c .before .before .before .before .before .before .pre .0)) (c .before .before .before .before .before .before .args .sector) (c .before .before .before .before .before .before .pre .2), tag-inside (c .before .before .before .before .before .before .args .g) (ranged (c .before .before .before .before .before .before .args .g) (c .before .before .before .before .before .before .pre .0)) (c .before .before .before .before .before .before .args .sector), tag-sector (c .before .before .before .before .before .before .args .g) (ranged (c .before .before .before .before .before .before .args .g) (c .before .before .before .before .before .before .pre .0)) (c .before .before .before .before .before .before .args .sector))
+same-at-requires c κs = omega (arith, c .before .tag-byte .ensures .0, c .before .before .tag .ensures .1, width-high (c .before .before .before .before .before .before .args .g) (c .before .before .before .before .before .before .pre .0), tag-end (c .before .before .before .before .before .before .args .g) (ranged (c .before .before .before .before .before .before .args .g) (c .before .before .before .before .before .before .pre .0)) (c .before .before .before .before .before .before .args .sector) (c .before .before .before .before .before .before .pre .2))
 
 returns : tie.Need-returns
 returns c =

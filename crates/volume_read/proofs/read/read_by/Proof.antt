@@ -3,9 +3,9 @@ use native.Mathlib.Omega.{arith}
 use borrow.Author.Tests.{not-true, not-false}
 use Rattle.on_disk.proofs.Addresses.{ranged, data-room}
 use Rattle.layout.proofs.Sizes.{width-high, provided-high}
-use Rattle.model.proofs.States.{state-layout, state-count, staging-length, volume-room}
+use Rattle.model.proofs.States.{state-layout, state-count, staged-length, volume-room}
 use Rattle.sound.specs.Rule.{tagBy}
-use Rattle.volume_read.proofs.Reading.{not-now, out-of-range, found-staged, mismatch, found-home, state-ok, volume-ok, staging-ok, sector-length, sector-copied}
+use Rattle.volume_read.proofs.Reading.{not-now, out-of-range, found-staged, mismatch, found-home, state-ok, volume-ok, staged-ok, sector-length, sector-copied}
 use borrow.Author.Needs.{needs}
 use Rattle.volume_read.proofs.read.read_by.Statement.{statement}
 use Rattle.volume_read.proofs.read.read_by.Tie as tie
@@ -17,10 +17,10 @@ returns-2 : tie.Need-returns-2
 returns-2 c = out-of-range (tagBy (c .before .before .before .before .before .before .before .args .rule)) (c .before .before .before .before .before .before .before .args .s) (c .before .before .before .before .before .before .before .args .v .now) (c .before .before .before .before .before .before .before .args .st .now) (c .before .before .before .before .before .before .before .args .sector) (c .before .before .before .before .before .before .before .args .bytes .now) (c .before .before .before .before .before .before .before .pre) (sym (c .before .before .is-recovering .ensures) ∙ c .before .if1 .left) (c .if2 .taken)
 
 newest-for-requires : tie.Need-newest-for-requires
-newest-for-requires c κs = (width-high (c .before .before .before .before .before .before .before .args .s .layout) (state-layout (c .before .before .before .before .before .before .before .args .s) (state-ok (c .before .before .before .before .before .before .before .args .s) (c .before .before .before .before .before .before .before .args .v .now) (c .before .before .before .before .before .before .before .args .st .now) (c .before .before .before .before .before .before .before .args .bytes .now) (c .before .before .before .before .before .before .before .pre))), state-count (c .before .before .before .before .before .before .before .args .s) (state-ok (c .before .before .before .before .before .before .before .args .s) (c .before .before .before .before .before .before .before .args .v .now) (c .before .before .before .before .before .before .before .args .st .now) (c .before .before .before .before .before .before .before .args .bytes .now) (c .before .before .before .before .before .before .before .pre)), staging-length (c .before .before .before .before .before .before .before .args .s .layout) (c .before .before .before .before .before .before .before .args .st .now) (staging-ok (c .before .before .before .before .before .before .before .args .s) (c .before .before .before .before .before .before .before .args .v .now) (c .before .before .before .before .before .before .before .args .st .now) (c .before .before .before .before .before .before .before .args .bytes .now) (c .before .before .before .before .before .before .before .pre)))
+newest-for-requires c κs = (width-high (c .before .before .before .before .before .before .before .args .s .layout) (state-layout (c .before .before .before .before .before .before .before .args .s) (state-ok (c .before .before .before .before .before .before .before .args .s) (c .before .before .before .before .before .before .before .args .v .now) (c .before .before .before .before .before .before .before .args .st .now) (c .before .before .before .before .before .before .before .args .bytes .now) (c .before .before .before .before .before .before .before .pre))), state-count (c .before .before .before .before .before .before .before .args .s) (state-ok (c .before .before .before .before .before .before .before .args .s) (c .before .before .before .before .before .before .before .args .v .now) (c .before .before .before .before .before .before .before .args .st .now) (c .before .before .before .before .before .before .before .args .bytes .now) (c .before .before .before .before .before .before .before .pre)), staged-length (c .before .before .before .before .before .before .before .args .s) (c .before .before .before .before .before .before .before .args .st .now) (staged-ok (c .before .before .before .before .before .before .before .args .s) (c .before .before .before .before .before .before .before .args .v .now) (c .before .before .before .before .before .before .before .args .st .now) (c .before .before .before .before .before .before .before .args .bytes .now) (c .before .before .before .before .before .before .before .pre)))
 
 entry-data-requires : tie.Need-entry-data-requires
-entry-data-requires c κs = (width-high (c .before .before .before .before .before .before .before .before .before .before .args .s .layout) (state-layout (c .before .before .before .before .before .before .before .before .before .before .args .s) (state-ok (c .before .before .before .before .before .before .before .before .before .before .args .s) (c .before .before .before .before .before .before .before .before .before .before .args .v .now) (c .before .before .before .before .before .before .before .before .before .before .args .st .now) (c .before .before .before .before .before .before .before .before .before .before .args .bytes .now) (c .before .before .before .before .before .before .before .before .before .before .pre))), omega (arith, state-count (c .before .before .before .before .before .before .before .before .before .before .args .s) (state-ok (c .before .before .before .before .before .before .before .before .before .before .args .s) (c .before .before .before .before .before .before .before .before .before .before .args .v .now) (c .before .before .before .before .before .before .before .before .before .before .args .st .now) (c .before .before .before .before .before .before .before .before .before .before .args .bytes .now) (c .before .before .before .before .before .before .before .before .before .before .pre))), staging-length (c .before .before .before .before .before .before .before .before .before .before .args .s .layout) (c .before .before .before .before .before .before .before .before .before .before .args .st .now) (staging-ok (c .before .before .before .before .before .before .before .before .before .before .args .s) (c .before .before .before .before .before .before .before .before .before .before .args .v .now) (c .before .before .before .before .before .before .before .before .before .before .args .st .now) (c .before .before .before .before .before .before .before .before .before .before .args .bytes .now) (c .before .before .before .before .before .before .before .before .before .before .pre)), sector-length (c .before .before .before .before .before .before .before .before .before .before .args .s) (c .before .before .before .before .before .before .before .before .before .before .args .v .now) (c .before .before .before .before .before .before .before .before .before .before .args .st .now) (c .before .before .before .before .before .before .before .before .before .before .args .bytes .now) (c .before .before .before .before .before .before .before .before .before .before .pre))
+entry-data-requires c κs = (width-high (c .before .before .before .before .before .before .before .before .before .before .args .s .layout) (state-layout (c .before .before .before .before .before .before .before .before .before .before .args .s) (state-ok (c .before .before .before .before .before .before .before .before .before .before .args .s) (c .before .before .before .before .before .before .before .before .before .before .args .v .now) (c .before .before .before .before .before .before .before .before .before .before .args .st .now) (c .before .before .before .before .before .before .before .before .before .before .args .bytes .now) (c .before .before .before .before .before .before .before .before .before .before .pre))), omega (arith, state-count (c .before .before .before .before .before .before .before .before .before .before .args .s) (state-ok (c .before .before .before .before .before .before .before .before .before .before .args .s) (c .before .before .before .before .before .before .before .before .before .before .args .v .now) (c .before .before .before .before .before .before .before .before .before .before .args .st .now) (c .before .before .before .before .before .before .before .before .before .before .args .bytes .now) (c .before .before .before .before .before .before .before .before .before .before .pre))), staged-length (c .before .before .before .before .before .before .before .before .before .before .args .s) (c .before .before .before .before .before .before .before .before .before .before .args .st .now) (staged-ok (c .before .before .before .before .before .before .before .before .before .before .args .s) (c .before .before .before .before .before .before .before .before .before .before .args .v .now) (c .before .before .before .before .before .before .before .before .before .before .args .st .now) (c .before .before .before .before .before .before .before .before .before .before .args .bytes .now) (c .before .before .before .before .before .before .before .before .before .before .pre)), sector-length (c .before .before .before .before .before .before .before .before .before .before .args .s) (c .before .before .before .before .before .before .before .before .before .before .args .v .now) (c .before .before .before .before .before .before .before .before .before .before .args .st .now) (c .before .before .before .before .before .before .before .before .before .before .args .bytes .now) (c .before .before .before .before .before .before .before .before .before .before .pre))
 
 returns-3 : tie.Need-returns-3
 returns-3 c = found-staged (tagBy (c .before .before .before .before .before .before .before .before .before .before .before .before .before .args .rule)) (c .before .before .before .before .before .before .before .before .before .before .before .before .before .args .s) (c .before .before .before .before .before .before .before .before .before .before .before .before .before .args .v .now) (c .before .before .before .before .before .before .before .before .before .before .before .before .before .args .st .now) (c .before .before .before .before .before .before .before .before .before .before .before .before .before .args .sector) (c .before .before .before .before .before .before .before .before .before .before .before .before .before .args .bytes .now) (c .before .before .before .before .before .before .before .before .before .before .before .before .before .pre) (sym (c .before .before .before .before .before .before .before .before .is-recovering .ensures) ∙ c .before .before .before .before .before .before .before .if1 .left) (c .before .before .before .before .before .before .if2 .left) (c .before .before .before .before .before .newest-for .result) (c .before .before .before .before .before .newest-for .ensures) (c .before .before .before .before .if3 .taken) (c .before .before .entry-data .last .1 .1 .1 .0) (c .before .before .entry-data .ensures)
