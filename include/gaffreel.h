@@ -41,19 +41,19 @@
  *     gaffreel_hmac_sha256          2,048
  *     gaffreel_volume_format        3,136
  *     gaffreel_volume_query           256
- *     gaffreel_volume_open          3,392
+ *     gaffreel_volume_open          3,456
  *     gaffreel_volume_write         2,368
  *     gaffreel_volume_flush           384
- *     gaffreel_volume_step          2,304
- *     gaffreel_volume_next_store    1,728
- *     gaffreel_volume_advance       3,712
- *     gaffreel_volume_read          2,304
+ *     gaffreel_volume_step          2,496
+ *     gaffreel_volume_next_store    1,920
+ *     gaffreel_volume_advance       3,968
+ *     gaffreel_volume_read          2,432
  *     gaffreel_volume_verify        2,240
  *     gaffreel_volume_format_keyed  3,264
- *     gaffreel_volume_open_keyed    3,520
- *     gaffreel_volume_write_keyed   2,432
- *     gaffreel_volume_read_keyed    2,368
- *     gaffreel_volume_verify_keyed  2,368
+ *     gaffreel_volume_open_keyed    2,368
+ *     gaffreel_volume_write_keyed   2,496
+ *     gaffreel_volume_read_keyed    2,496
+ *     gaffreel_volume_verify_keyed  2,240
  *     gaffreel_tree_length             64
  *     gaffreel_tree_build           2,112
  *     gaffreel_tree_verify          1,728

@@ -33,10 +33,15 @@ prints() {
     count=$((count + 1))
 }
 
-# A sample with bytes changed, which is refused: refused NUMBER NAME SAMPLE OFFSET BYTES, the bytes as printf has them.
+# A copy of a sample with bytes changed: changed NAME SAMPLE OFFSET BYTES, the bytes as printf has them.
+changed() {
+    cp "samples/$2.img" "$work/$1.img"
+    printf "$4" | dd of="$work/$1.img" bs=1 seek="$3" conv=notrunc status=none
+}
+
+# The same, which is refused: refused NUMBER NAME SAMPLE OFFSET BYTES.
 refused() {
-    cp "samples/$3.img" "$work/$2.img"
-    printf "$5" | dd of="$work/$2.img" bs=1 seek="$4" conv=notrunc status=none
+    changed "$2" "$3" "$4" "$5"
     echo "refused $1" >"$work/$2.txt"
     prints "$work/$2.img" "$work/$2.txt"
 }
@@ -67,19 +72,36 @@ cmp crates/bench/stdout samples/two_bad_sectors.txt
 refused 4 magic fresh 0 'I'
 refused 4 version fresh 8 '\005'
 refused 4 run fresh 9 '\002'
-refused 4 tag fresh 10 '\030'
+refused 4 tag fresh 10 '\041'
+refused 4 no_tag fresh 10 '\000'
+refused 4 tag_of_276 fresh 10 '\024\001'
 refused 4 sections fresh 12 '\000'
 refused 4 provided fresh 16 '\000'
 refused 4 flags fresh 24 '\001'
 refused 4 block fresh 28 '\001'
 refused 4 rest fresh 4095 '\001'
-# More sectors provided than the image has room for.
+# More sectors provided than the image has room for, and larger sections, those of tags of 24 bytes.
 refused 5 layout fresh 16 '\021'
+refused 5 larger_sections fresh 10 '\030'
 # Commit ids used up, on any journal sector: the last of the section, which the torn attempt had not reached.
 refused 10 ids torn $((95 * 512 + 504)) '\377\377\377\377\377\377\377\377'
 # In the journal: an entry for a sector that is not provided, and an entry whose tag does not fit.
 refused 6 entry replay $((8 * 512)) '\020'
 refused 7 entry_tag replay $((8 * 512 + 48 + 16)) 'x'
+# The last byte of a tag of 20 bytes, and of 30; what stands behind a tag in its entry is ignored.
+refused 7 ward_tag ward $((8 * 512 + 16 + 19)) 'x'
+refused 7 crossing_tag crossing $((8 * 512 + 48 + 16 + 29)) 'x'
+changed behind_ward_tag ward $((8 * 512 + 16 + 20)) 'xxxx'
+prints "$work/behind_ward_tag.img" samples/ward.txt
+changed behind_crossing_tag crossing $((8 * 512 + 48 + 16 + 30)) 'xx'
+prints "$work/behind_crossing_tag.img" samples/crossing.txt
+# Damage to either part of the tag of sector 17, on a fresh volume: no replay mends it.
+for part in lower:$((96 * 512 + 511)) upper:$((97 * 512 + 27)); do
+    gaffreel format "$work/${part%:*}.img" --tag-size 30 --run 32 --sectors 24 >"$work/formatted"
+    printf x | dd of="$work/${part%:*}.img" bs=1 seek="${part#*:}" conv=notrunc status=none
+    printf 'tag 30 run 32 sections 1 provided 24\nreplay 0\nbad-sector 17\nbad 1\n' >"$work/${part%:*}.txt"
+    prints "$work/${part%:*}.img" "$work/${part%:*}.txt"
+done
 
 # Lengths: empty, not whole sectors, short of a superblock, all zero, short of the layout, 128 sectors, one byte more.
 echo 'refused 1' >"$work/1.txt"

@@ -1,6 +1,6 @@
 #!/usr/bin/env bash
 # Builds the command-line tool, runs the example of docs/gaffreel.md again and compares what it prints with the page, and drills the
-# samples and a fresh volume. The tool's other tests are run with those of the other Rust crates.
+# samples and fresh volumes. The tool's other tests are run with those of the other Rust crates.
 set -euo pipefail
 cd "$(dirname "$0")/.."
 
@@ -37,3 +37,7 @@ done
 
 gaffreel format "$work/image" --tag-size 16 --run 8 --sections 3 --sectors 24 --reserved 1
 gaffreel drill "$work/image" --reserved 1 --batches 5 --writes 6
+
+# Three tags lie across two sectors: those of 17, 34 and 51.
+gaffreel format "$work/crossing" --tag-size 30 --run 64 --sections 2 --sectors 60
+gaffreel drill "$work/crossing" --batches 5 --writes 24 --recovery-cuts 40

@@ -211,7 +211,9 @@ static void test_refusals(void) {
     memset(volume, 0, VOLUME);
     assert(gaffreel_volume_format(volume, VOLUME - SECTOR, 0, 4, 32, 1, 16, answer, ANSWER) == GAFFREEL_SHORT);
     assert_answer(1, 120, 0);
-    assert(gaffreel_volume_format(volume, VOLUME, 0, 4, 31, 1, 16, answer, ANSWER) == GAFFREEL_OUT_OF_RANGE);
+    assert(gaffreel_volume_format(volume, VOLUME, 0, 4, 0, 1, 16, answer, ANSWER) == GAFFREEL_OUT_OF_RANGE);
+    assert(gaffreel_volume_format(volume, VOLUME, 0, 4, 33, 1, 16, answer, ANSWER) == GAFFREEL_OUT_OF_RANGE);
+    assert(gaffreel_volume_format(volume, VOLUME, 0, 4, 256 + 20, 1, 16, answer, ANSWER) == GAFFREEL_OUT_OF_RANGE);
     assert(gaffreel_volume_format(volume, VOLUME - 1, 0, 4, 32, 1, 16, answer, ANSWER) == GAFFREEL_LENGTH_OR_LIMIT);
     begin();
     assert(format() == GAFFREEL_SUPERBLOCK);

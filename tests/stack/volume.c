@@ -91,7 +91,7 @@ uint64_t verify_sectors(const struct given *g) {
     return CALL(gaffreel_volume_verify, LENT(g->state), LENT(g->volume), g->sector, g->count, LENT(g->answer));
 }
 
-void begin(size_t width, size_t sections, size_t key_length) {
+static void begin_with(size_t shift, size_t provided, size_t width, size_t sections, size_t key_length) {
     fill(key, KEY_ROOM);
     fit = (struct given){
         .volume = {volume, 0},
@@ -103,10 +103,10 @@ void begin(size_t width, size_t sections, size_t key_length) {
         .key = key_of(key, key_length),
         .keyed = key_length > 0,
         .reserved = draw(MOST_RESERVED + 1),
-        .shift = LEAST_SHIFT + draw(SHIFTS),
+        .shift = shift,
         .width = width,
         .sections = sections,
-        .provided = 1 + draw(MOST_PROVIDED),
+        .provided = provided,
     };
     /* The refusal of a volume that is too short tells the sectors that it needs. */
     assert(format_volume(&fit) == GAFFREEL_SHORT);
@@ -118,6 +118,19 @@ void begin(size_t width, size_t sections, size_t key_length) {
     fit.staging.length = number_at(answer, 0);
     assert(fit.staging.length < sizeof staging);
     assert(open_volume(&fit) == GAFFREEL_DONE);
+}
+
+void begin(size_t width, size_t sections, size_t key_length) {
+    begin_with(LEAST_SHIFT + draw(SHIFTS), 1 + draw(MOST_PROVIDED), width, sections, key_length);
+}
+
+void begin_across(size_t sections, size_t key_length) {
+    begin_with(5, 24, 30, sections, key_length);
+}
+
+uint64_t stores_of(uint64_t sector) {
+    uint64_t at = sector % (UINT64_C(1) << fit.shift) * fit.width % SECTOR;
+    return at + fit.width > SECTOR ? 3 : 2;
 }
 
 size_t section_size(void) {
@@ -134,7 +147,9 @@ uint8_t *section_at(size_t section) {
 
 uint8_t *entry_at(uint8_t *section, size_t entry) {
     size_t in_sector = entry_count() / METADATA;
-    return section + entry / in_sector * SECTOR + entry % in_sector * (16 + fit.width);
+    /* The tag's part is a multiple of 8 bytes. */
+    size_t size = 16 + (fit.width + 7) / 8 * 8;
+    return section + entry / in_sector * SECTOR + entry % in_sector * size;
 }
 
 void put_commit_id(size_t section, uint64_t id) {

@@ -11,16 +11,15 @@ enum {
     LAYOUT = GAFFREEL_VOLUME_LAYOUT_SIZE,
     STATE = GAFFREEL_VOLUME_STATE_SIZE,
     ANSWER = GAFFREEL_VOLUME_ANSWER_SIZE,
-    /* The bytes of a tag: 8, and twice as many each time. */
-    LEAST_WIDTH = 8,
-    WIDTHS = 3,
+    /* The most bytes of a tag. */
+    MOST_WIDTH = 32,
     MOST_SECTIONS = 64,
     /* The sectors of the largest section, and of the staging buffer for it. */
     LARGEST_SECTION = 168,
     /* Where a state has its phase, the two numbers of its place, its entries and its next commit id. */
     PHASE_AT = 64,
     PLACE_AT = 72,
-    HALF_AT = 80,
+    STORE_AT = 80,
     COUNT_AT = 88,
     ID_AT = 96,
     /* The sectors of the superblock, and of a section's metadata; where a sector of the journal has its commit id. */
@@ -49,6 +48,13 @@ volume_call format_volume, query_volume, open_volume, write_sector, flush_batch,
 
 /* A fresh volume, open, with tags of so many bytes and so many sections, and a key of so many bytes; without a key where these are 0. */
 void begin(size_t width, size_t sections, size_t key_length);
+
+/* The same with tags of 30 bytes, of which that of sector ACROSS lies across two sectors. */
+enum { ACROSS = 17 };
+void begin_across(size_t sections, size_t key_length);
+
+/* The stores that write an entry for a sector back: two, and three where its tag lies across two sectors. */
+uint64_t stores_of(uint64_t sector);
 
 /* The sectors of a section, and its entries. */
 size_t section_size(void);

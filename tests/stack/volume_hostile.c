@@ -79,7 +79,12 @@ static struct given any_given(void) {
 
 static void hostile_round(void) {
     size_t i;
-    begin(LEAST_WIDTH << draw(WIDTHS), 1 + draw(4), draw(2) ? 1 + draw(GAFFREEL_LONGEST_KEY) : 0);
+    size_t sections = 1 + draw(4), key_length = draw(2) ? 1 + draw(GAFFREEL_LONGEST_KEY) : 0;
+    if (draw(4)) {
+        begin(1 + draw(MOST_WIDTH), sections, key_length);
+    } else {
+        begin_across(sections, key_length);
+    }
     for (i = 0; i < CALLS_IN_ROUND; i++) {
         struct given g = any_given();
         calls[draw(sizeof calls / sizeof *calls)](&g);

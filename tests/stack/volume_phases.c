@@ -1,6 +1,6 @@
 /*
- * The calls of the volume in every phase, at the first, the middle and the last store of each, with full sections; without a key, and
- * with keys of the lengths at which a rule changes.
+ * The calls of the volume in every phase, at the first, the middle and the last store of each, with full sections; with tags of several
+ * sizes, also such as lie across two sectors; without a key, and with keys of the lengths at which a rule changes.
  */
 #undef NDEBUG
 
@@ -31,10 +31,16 @@ static uint64_t phase(void) {
     return number_at(fit.state.at, PHASE_AT);
 }
 
-static void put_phase(uint64_t phase, uint64_t place, uint64_t half) {
+static void put_phase(uint64_t phase, uint64_t place, uint64_t store) {
     put_number(fit.state.at, PHASE_AT, phase);
     put_number(fit.state.at, PLACE_AT, place);
-    put_number(fit.state.at, HALF_AT, half);
+    put_number(fit.state.at, STORE_AT, store);
+}
+
+/* A sector that the volume does not provide, with as many stores as this one has. */
+static uint64_t beyond(uint64_t sector) {
+    uint64_t runs = (fit.provided >> fit.shift) + 1;
+    return sector + (runs << fit.shift);
 }
 
 static uint64_t step_by(size_t way) {
@@ -55,10 +61,13 @@ static void step_each_way(uint64_t answer) {
     }
 }
 
-/* Writes until the batch is full. */
+/* Writes until the batch is full, often to sector ACROSS where that has three stores. */
 static void fill_batch(void) {
     do {
         fit.sector = draw(fit.provided);
+        if (ACROSS < fit.provided && stores_of(ACROSS) == 3 && draw(2)) {
+            fit.sector = ACROSS;
+        }
         fill(fit.bytes.at, SECTOR);
     } while (write_sector(&fit) == GAFFREEL_DONE);
     assert(number_at(fit.state.at, COUNT_AT) == entry_count());
@@ -104,41 +113,71 @@ static void committing(void) {
     step_each_way(GAFFREEL_LENGTH_OR_LIMIT);
 }
 
-/* Either store of an entry, as it is, and with a logical sector that the volume does not provide. */
+/*
+ * Each store of an entry, as it is, and with a logical sector that the volume does not provide. Behind the last, steps and reads see that
+ * the entry has no such store; the others do not look at it.
+ */
 static void write_entry_back(size_t entry) {
     uint8_t *at = entry_at(fit.staging.at, entry);
-    uint64_t half, sector = number_at(at, 0);
-    for (half = 0; half < 2; half++) {
-        put_phase(GAFFREEL_VOLUME_WRITING_BACK, entry, half);
+    uint64_t sector = number_at(at, 0), stores = stores_of(sector), store;
+    fit.sector = 0;
+    for (store = 0; store < stores; store++) {
+        put_phase(GAFFREEL_VOLUME_WRITING_BACK, entry, store);
         step_each_way(GAFFREEL_DONE);
         verify_each(GAFFREEL_NOT_NOW);
-        put_number(at, 0, fit.provided);
+        assert(read_sector(&fit) == GAFFREEL_DONE);
+        put_number(at, 0, beyond(sector));
         step_each_way(GAFFREEL_SECTOR_RANGE);
         put_number(at, 0, sector);
     }
+    put_phase(GAFFREEL_VOLUME_WRITING_BACK, entry, stores);
+    step_each_way(GAFFREEL_LENGTH_OR_LIMIT);
+    assert(read_sector(&fit) == GAFFREEL_LENGTH_OR_LIMIT);
+    assert(write_sector(&fit) == (stores < 3 ? GAFFREEL_NOT_NOW : GAFFREEL_LENGTH_OR_LIMIT));
+    assert(flush_batch(&fit) == (stores < 3 ? GAFFREEL_NOT_NOW : GAFFREEL_LENGTH_OR_LIMIT));
 }
 
+/* The first, the middle and the last entry, and one with three stores if there is one. */
 static void writing_back(void) {
     size_t i;
     for (i = 0; i < SPREAD; i++) {
         write_entry_back(spread(entry_count(), i));
     }
+    for (i = 0; i < entry_count(); i++) {
+        if (stores_of(number_at(entry_at(fit.staging.at, i), 0)) == 3) {
+            write_entry_back(i);
+            break;
+        }
+    }
     put_phase(GAFFREEL_VOLUME_WRITING_BACK, entry_count(), 0);
     step_each_way(GAFFREEL_LENGTH_OR_LIMIT);
 }
 
-/* Either store of an entry of the journal, whose sections are full and in order; then the same with the entry damaged. */
+/* The stores of a replay before an entry of the journal, whose sections are full and in order. */
+static uint64_t stores_before(size_t section, size_t entry) {
+    uint64_t stores = 0;
+    size_t i;
+    for (i = 0; i < section * entry_count() + entry; i++) {
+        stores += stores_of(number_at(entry_at(section_at(i / entry_count()), i % entry_count()), 0));
+    }
+    return stores;
+}
+
+/* Each store of an entry of the journal; then the same with the entry damaged. */
 static void recover_entry(size_t section, size_t entry) {
     uint8_t *at = entry_at(section_at(section), entry);
-    uint64_t store = 2 * (section * entry_count() + entry), sector = number_at(at, 0);
-    put_phase(GAFFREEL_VOLUME_RECOVERING, store, 0);
-    step_each_way(GAFFREEL_DONE);
-    put_phase(GAFFREEL_VOLUME_RECOVERING, store + 1, 0);
-    step_each_way(GAFFREEL_DONE);
+    uint64_t sector = number_at(at, 0), store = stores_before(section, entry), last = store + stores_of(sector) - 1, i;
+    for (i = store; i <= last; i++) {
+        put_phase(GAFFREEL_VOLUME_RECOVERING, i, 0);
+        step_each_way(GAFFREEL_DONE);
+    }
 
-    put_number(at, 0, fit.provided);
+    put_number(at, 0, beyond(sector));
     assert(open_volume(&fit) == GAFFREEL_SECTOR_RANGE);
-    step_each_way(GAFFREEL_SECTOR_RANGE);
+    for (i = store; i <= last; i++) {
+        put_phase(GAFFREEL_VOLUME_RECOVERING, i, 0);
+        step_each_way(GAFFREEL_SECTOR_RANGE);
+    }
     put_phase(GAFFREEL_VOLUME_RECOVERING, 0, 0);
     fit.steps = SIZE_MAX;
     assert(advance_steps(&fit) == GAFFREEL_SECTOR_RANGE);
@@ -169,7 +208,7 @@ static void recovering(void) {
     size_t i;
     assert(open_volume(&fit) == GAFFREEL_DONE);
     stores = number_at(fit.answer.at, 0);
-    assert(stores == 2 * entry_count() * fit.sections && phase() == GAFFREEL_VOLUME_RECOVERING);
+    assert(stores == stores_before(fit.sections, 0) && phase() == GAFFREEL_VOLUME_RECOVERING);
     assert(write_sector(&fit) == GAFFREEL_NOT_NOW && read_sector(&fit) == GAFFREEL_NOT_NOW);
     verify_each(GAFFREEL_NOT_NOW);
     for (i = 0; i < SPREAD; i++) {
@@ -222,10 +261,10 @@ static void other_keys(void) {
     }
 }
 
-static void every_phase(size_t width, size_t sections, size_t key_length) {
+/* On a volume that is open and fresh. */
+static void every_phase(void) {
     size_t i;
-    begin(width, sections, key_length);
-    for (i = 0; i < sections; i++) {
+    for (i = 0; i < fit.sections; i++) {
         commit_batch();
     }
     wrong_commit_ids();
@@ -240,11 +279,19 @@ static void every_phase(size_t width, size_t sections, size_t key_length) {
 }
 
 void call_volume_phases(void) {
-    static const size_t sections[] = {1, 2, 7, MOST_SECTIONS}, taken_keys[] = {1, 64, 65, 256};
-    size_t i;
+    /* One of each length of an entry and more; with 0, those of begin_across. */
+    static const size_t widths[] = {8, 16, 32, 20, 0}, sections[] = {1, 2, 7, MOST_SECTIONS}, taken_keys[] = {1, 64, 65, 256};
+    enum { WIDTHS = sizeof widths / sizeof *widths };
+    size_t i, j;
     for (i = 0; i < WIDTHS * sizeof sections / sizeof *sections; i++) {
-        size_t width = LEAST_WIDTH << i % WIDTHS;
-        every_phase(width, sections[i / WIDTHS], 0);
-        every_phase(width, sections[i / WIDTHS], taken_keys[i % (sizeof taken_keys / sizeof *taken_keys)]);
+        size_t key_lengths[] = {0, taken_keys[i % (sizeof taken_keys / sizeof *taken_keys)]};
+        for (j = 0; j < sizeof key_lengths / sizeof *key_lengths; j++) {
+            if (widths[i % WIDTHS] > 0) {
+                begin(widths[i % WIDTHS], sections[i / WIDTHS], key_lengths[j]);
+            } else {
+                begin_across(sections[i / WIDTHS], key_lengths[j]);
+            }
+            every_phase();
+        }
     }
 }

@@ -158,8 +158,10 @@ impl Error for Stopped {}
 /// Makes a volume whose superblock is still zero: every sector provided is zero and has its tag. The reserved sectors
 /// and those behind the last run stay as they are.
 ///
-/// In range are 0 to 64 reserved sectors, a logarithm of 3 to 15, a tag size of 8, 16 or 32, 1 to 64 sections and 1 to
-/// 65,536 sectors provided; in all a volume has at most [`MOST_SECTORS`].
+/// In range are 0 to 64 reserved sectors, a logarithm of 3 to 15, a tag size of 1 to 32 bytes, 1 to 64 sections and 1 to
+/// 65,536 sectors provided; in all a volume has at most [`MOST_SECTORS`]. A batch takes 160 writes with tags of up to 8 bytes, 120
+/// with up to 16, 96 with up to 24 and 80 with longer ones. A short tag fits other data by chance: one of a single byte once in 256
+/// times.
 pub fn format(volume: &mut [u8], layout: &Layout) -> Result<(), Refusal> {
     let reply = Reply::of(|answer| {
         ffi::volume_format(

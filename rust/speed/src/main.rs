@@ -22,6 +22,7 @@ fn main() {
     volume::sectors_verified();
     volume::sectors_checked_with_a_key();
     volume::recovery_by_sections();
+    volume::recovery_by_tag_size();
 }
 
 /// The digest of 32 MiB in one piece.

@@ -4,7 +4,8 @@ use crate::measure::{best_of_rounds, compare, milliseconds, pattern, ratio, time
 use gaffreel::Refusal;
 use reference::volume::{Geometry, Layout, Phase, TagRule, VOLUME_LIMIT};
 use std::hint::black_box;
-use volumes::{formatted, formatted_by, geometry, put_section, section, Entry};
+use volumes::kinds::stores_to_replay;
+use volumes::{crosses, formatted, formatted_by, geometry, put_section, section, Entry};
 
 /// The layout of as many sectors as a volume can provide, in two runs.
 fn greatest_layout(tag_size: u64, sections: u64) -> Layout {
@@ -22,6 +23,8 @@ fn greatest_layout(tag_size: u64, sections: u64) -> Layout {
 /// A volume with a full journal, by both sides.
 struct Journal {
     geometry: Geometry,
+    /// The stores that replay it.
+    stores: u64,
     proved: Side<gaffreel::volume::State>,
     rust: Side<reference::volume::State>,
 }
@@ -37,17 +40,30 @@ struct Side<State> {
 }
 
 impl Journal {
-    /// Tags of 8 bytes, every section whole and full, its entries spread over all sectors.
-    fn new(sections: u64) -> Journal {
-        let layout = greatest_layout(8, sections);
+    /// Entries for all sectors of a volume, each in its turn.
+    fn new(tag_size: u64, sections: u64) -> Journal {
+        let layout = greatest_layout(tag_size, sections);
+        Journal::of(&layout, (0..layout.provided).collect())
+    }
+
+    /// Entries for the sectors whose tags lie across two sectors.
+    fn across_sectors(tag_size: u64, sections: u64) -> Journal {
+        let layout = greatest_layout(tag_size, sections);
         let geometry = geometry(&layout);
-        let mut volume = formatted(&layout, 0);
+        let across = (0..layout.provided).filter(|sector| crosses(&geometry, *sector));
+        Journal::of(&layout, across.collect())
+    }
+
+    /// Every section whole and full, its entries spread over these sectors.
+    fn of(layout: &Layout, sectors: Vec<u64>) -> Journal {
+        let geometry = geometry(layout);
+        let mut volume = formatted(layout, 0);
         for number in 0..geometry.sections {
             let entries: Vec<Entry> = (0..geometry.entries)
                 .map(|entry| {
                     let place = number * geometry.entries + entry;
                     // A prime that does not divide the number of sectors.
-                    let sector = (place * 7919 % geometry.provided) as u64;
+                    let sector = sectors[place * 7919 % sectors.len()];
                     Entry::new(sector, (place ^ (place >> 8)) as u8)
                 })
                 .collect();
@@ -61,6 +77,7 @@ impl Journal {
         }
         Journal {
             geometry,
+            stores: stores_to_replay(&volume, &geometry).len() as u64,
             proved: Side::new(&geometry, volume.clone()),
             rust: Side::new(&geometry, volume),
         }
@@ -73,7 +90,7 @@ impl Journal {
 
     /// Both made the stores that they reported, are filling, and left the same volume.
     fn assert_same(&self) {
-        let stores = (2 * self.geometry.sections * self.geometry.entries) as u64;
+        let stores = self.stores;
         let (proved, rust) = (&self.proved, &self.rust);
         assert_eq!((proved.stores_to_come, proved.stores), (stores, stores));
         assert_eq!((rust.stores_to_come, rust.stores), (stores, stores));
@@ -144,7 +161,7 @@ impl Side<reference::volume::State> {
 
 /// A full journal of the most sections opened, and replayed to its end.
 pub fn journal_recovered() {
-    let mut journal = Journal::new(64);
+    let mut journal = Journal::new(8, 64);
     let length = journal.length();
     let (proved, rust) = (&mut journal.proved, &mut journal.rust);
     compare(
@@ -286,51 +303,72 @@ fn bad_by_verifies(
     bad
 }
 
+/// The most sections of a journal.
+const MOST_SECTIONS: u64 = 64;
+
 /// A table: how the times of open and of the recovery grow with the number of sections, all full. The recovery is timed once
 /// behind an open, as a card makes it, with the volume out of the nearer caches; and so often in a row that every line times
 /// as many stores as the last, since one of few sections takes microseconds.
 pub fn recovery_by_sections() {
-    const MOST_SECTIONS: u64 = 64;
+    recovery_heading("full sections");
+    for sections in [1, 4, 16, MOST_SECTIONS] {
+        let journal = Journal::new(8, sections);
+        recovery_row(&sections.to_string(), journal, MOST_SECTIONS / sections);
+    }
+}
+
+/// The same of the most sections with tags of other sizes, of which some lie across two sectors; and of entries whose tags all do, with
+/// three stores each.
+pub fn recovery_by_tag_size() {
+    recovery_heading("64 full sections");
+    recovery_row("T 20", Journal::new(20, MOST_SECTIONS), 1);
+    recovery_row("T 30", Journal::new(30, MOST_SECTIONS), 1);
+    let across = Journal::across_sectors(30, MOST_SECTIONS);
+    recovery_row("T 30 across", across, 1);
+}
+
+/// Prints what the columns of [`recovery_row`] hold.
+fn recovery_heading(rows: &str) {
     println!();
     println!(
-        "{:<24} {:>27}   {:>27}   {:>27}",
-        "full sections", "open", "recovery behind it", "recoveries in a row"
+        "{rows:<26} {:>27}   {:>27}   {:>27}",
+        "open", "recovery behind it", "recoveries in a row"
     );
     let columns = format!("{:>10} {:>9} {:>6}", "proved ms", "Rust ms", "ratio");
-    println!("{:<24} {columns}   {columns}   {columns}", "");
-    for sections in [1, 4, 16, MOST_SECTIONS] {
-        let mut journal = Journal::new(sections);
-        let times = MOST_SECTIONS / sections;
-        let (proved, rust) = (&mut journal.proved, &mut journal.rust);
-        let [proved_open, rust_open, proved_recovery, rust_recovery] = best_of_rounds(|| {
-            [
-                time(|| proved.open()),
-                time(|| rust.open()),
-                time(|| proved.recover()),
-                time(|| rust.recover()),
-            ]
-        });
-        let [proved_row, rust_row] = best_of_rounds(|| {
-            [
-                time(|| (0..times).for_each(|_| proved.recover())),
-                time(|| (0..times).for_each(|_| rust.recover())),
-            ]
-        });
-        journal.assert_same();
-        let pair = |proved, rust| {
-            format!(
-                "{:>10.2} {:>9.2} {:>6.2}",
-                milliseconds(proved),
-                milliseconds(rust),
-                ratio(proved, rust)
-            )
-        };
-        println!(
-            "{:<24} {}   {}   {}",
-            format!("{sections}, {} stores", journal.rust.stores),
-            pair(proved_open, rust_open),
-            pair(proved_recovery, rust_recovery),
-            pair(proved_row, rust_row)
-        );
-    }
+    println!("{:<26} {columns}   {columns}   {columns}", "");
+}
+
+/// Times a journal's open and its recovery, once and so many times in a row.
+fn recovery_row(name: &str, mut journal: Journal, times: u64) {
+    let (proved, rust) = (&mut journal.proved, &mut journal.rust);
+    let [proved_open, rust_open, proved_recovery, rust_recovery] = best_of_rounds(|| {
+        [
+            time(|| proved.open()),
+            time(|| rust.open()),
+            time(|| proved.recover()),
+            time(|| rust.recover()),
+        ]
+    });
+    let [proved_row, rust_row] = best_of_rounds(|| {
+        [
+            time(|| (0..times).for_each(|_| proved.recover())),
+            time(|| (0..times).for_each(|_| rust.recover())),
+        ]
+    });
+    journal.assert_same();
+    let pair = |proved, rust| {
+        format!(
+            "{:>10.2} {:>9.2} {:>6.2}",
+            milliseconds(proved),
+            milliseconds(rust),
+            ratio(proved, rust)
+        )
+    };
+    println!(
+        "{:<26} {}   {}   {}",
+        format!("{name}, {} stores", journal.stores),
+        pair(proved_open, rust_open),
+        pair(proved_recovery, rust_recovery),
+        pair(proved_row, rust_row)
+    );
 }

@@ -123,13 +123,14 @@ fn used_entries(reached: &[Sector], sizes: &Sizes) -> Vec<Entry> {
     });
     slots
         .enumerate()
-        .map(|(place, bytes)| read_entry(place, bytes, reached))
+        .map(|(place, bytes)| read_entry(place, bytes, reached, sizes))
         .filter(|entry| entry.sector != UNUSED)
         .collect()
 }
 
-fn read_entry(place: usize, bytes: &[u8], reached: &[Sector]) -> Entry {
-    let (head, tag) = bytes.split_at(ENTRY_HEAD_LENGTH);
+/// An entry. What stands behind its tag, up to the entry's end, is no part of it.
+fn read_entry(place: usize, bytes: &[u8], reached: &[Sector], sizes: &Sizes) -> Entry {
+    let (head, tag_part) = bytes.split_at(ENTRY_HEAD_LENGTH);
     let (sector, last_data) = head.split_at(8);
     let data = reached.get(METADATA_SECTORS + place).map(|stored| {
         let mut data = *stored;
@@ -139,7 +140,7 @@ fn read_entry(place: usize, bytes: &[u8], reached: &[Sector]) -> Entry {
     Entry {
         place,
         sector: number(sector),
-        tag: tag.to_vec(),
+        tag: tag_part[..sizes.tag_size].to_vec(),
         data,
     }
 }

@@ -1,8 +1,9 @@
 //! Volumes, staging, states and arguments of any kind.
 
-use crate::{empty_staging, formatted, geometry, put_id, put_section, section, Entry, UNUSED};
+use crate::{empty_staging, formatted, geometry, padding_place};
+use crate::{put_id, put_section, section, Entry, UNUSED};
 use random::Random;
-use reference::volume::{Geometry, Half, Layout, Phase, State};
+use reference::volume::{Geometry, Layout, Phase, State};
 
 /// Numbers of any size, and many at the ends.
 pub fn any_number(random: &mut Random) -> u64 {
@@ -36,14 +37,36 @@ pub fn any_range(random: &mut Random, provided: u64) -> (u64, u64) {
     }
 }
 
-/// A small layout.
-pub fn small_layout(random: &mut Random) -> Layout {
+/// Any tag size that there is.
+pub fn any_tag_size(random: &mut Random) -> u64 {
+    random.length(1..=32) as u64
+}
+
+/// The layout with such runs, tags and so many sectors that a tag lies across two sectors; not many more.
+pub fn with_tag_across_sectors(random: &mut Random, layout: Layout) -> Layout {
+    let tag_size = random.length(17..=31) as u64;
+    // None of these sizes divides 512, so the tag that ends behind the first sector of the tag area begins in it.
+    let first = 512 / tag_size;
     Layout {
+        log2_run: random.pick(&[5, 5, 6]),
+        tag_size,
+        provided: first + 1 + random.number() % 8,
+        ..layout
+    }
+}
+
+/// A small layout. A third are made to have a tag that lies across two sectors.
+pub fn small_layout(random: &mut Random) -> Layout {
+    let layout = Layout {
         reserved: random.pick(&[0, 0, 1, 3]),
         log2_run: random.pick(&[3, 3, 4, 5]),
-        tag_size: random.pick(&[8, 16, 32]),
+        tag_size: any_tag_size(random),
         sections: random.pick(&[1, 2, 3, 4]),
         provided: random.length(1..=40) as u64,
+    };
+    match random.number() % 3 {
+        0 => with_tag_across_sectors(random, layout),
+        _ => layout,
     }
 }
 
@@ -64,14 +87,36 @@ pub fn any_layout(random: &mut Random) -> Layout {
     layout
 }
 
+/// A sector that is provided; where tags lie across two sectors, often such a one.
+pub fn any_sector(random: &mut Random, layout: &Layout) -> u64 {
+    let any = random.number() % layout.provided;
+    let across = across_sectors(random, &geometry(layout), any);
+    match random.number() % 3 {
+        0 if across < layout.provided => across,
+        _ => any,
+    }
+}
+
+/// A number in the run that this one is in; where tags lie across two sectors, that of one of them.
+pub fn across_sectors(random: &mut Random, geometry: &Geometry, sector: u64) -> u64 {
+    // The tag that has the first byte of a sector of the tag area, not of the first one.
+    let boundaries = (geometry.run * geometry.tag_size - 1) / 512;
+    let boundary = 512 * random.length(boundaries.min(1)..=boundaries) as u64;
+    let place = boundary / geometry.tag_size as u64;
+    sector - sector % geometry.run as u64 + place
+}
+
 /// An entry of any kind; most are good.
 pub fn any_entry(random: &mut Random, layout: &Layout) -> Entry {
+    let any = any_number(random);
     let sector = match random.number() % 16 {
         0 => layout.provided,
         1 => UNUSED - 1,
-        2 => any_number(random),
+        2 => any,
         3 | 4 => UNUSED,
-        _ => random.number() % layout.provided,
+        5 => across_sectors(random, &geometry(layout), any),
+        6 => across_sectors(random, &geometry(layout), UNUSED),
+        _ => any_sector(random, layout),
     };
     let mut data = [0; 512];
     random.fill(&mut data);
@@ -88,11 +133,22 @@ pub fn any_section(random: &mut Random, layout: &Layout, geometry: &Geometry, id
     let good = random.number().is_multiple_of(2);
     let entries: Vec<Entry> = (0..count)
         .map(|_| match good {
-            true => Entry::new(random.number() % layout.provided, random.number() as u8),
+            true => Entry::new(any_sector(random, layout), random.number() as u8),
             false => any_entry(random, layout),
         })
         .collect();
-    section(geometry, id, &entries)
+    let mut section = section(geometry, id, &entries);
+    if random.number().is_multiple_of(4) {
+        fill_padding(random, geometry, &mut section);
+    }
+    section
+}
+
+/// Has any bytes stand behind the tags of a section's entries, where zeros are written.
+pub fn fill_padding(random: &mut Random, geometry: &Geometry, section: &mut [u8]) {
+    for entry in 0..geometry.entries {
+        random.fill(&mut section[padding_place(geometry, entry)]);
+    }
 }
 
 /// A formatted volume with sections that are whole or torn, in the right place or not, with low, high and equal ids.
@@ -191,11 +247,18 @@ pub fn any_staging(random: &mut Random, layout: &Layout) -> Vec<u8> {
 /// A state of any kind with this layout.
 pub fn any_state(random: &mut Random, layout: &Layout) -> State {
     let place = any_number(random);
-    let half = random.pick(&[Half::Data, Half::Tag]);
+    let any = any_number(random);
+    let store = match random.number() % 4 {
+        0 => random.pick(&[2, 3, any]),
+        _ => random.number() % 2,
+    };
     let phase = match random.number() % 4 {
         0 => Phase::Filling,
         1 => Phase::Committing { sector: place },
-        2 => Phase::WritingBack { entry: place, half },
+        2 => Phase::WritingBack {
+            entry: place,
+            store,
+        },
         _ => Phase::Recovering { store: place },
     };
     let recovering = matches!(phase, Phase::Recovering { .. });

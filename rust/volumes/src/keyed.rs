@@ -1,5 +1,6 @@
 //! Volumes, sections and keys for the calls with a key.
 
+use crate::{entry_place, tag_place};
 use random::Random;
 use reference::volume::{digest_of_sector, Geometry, Layout, TagRule};
 
@@ -60,15 +61,14 @@ pub fn retag(volume: &mut [u8], layout: &Layout, rule: TagRule) {
 
 /// The same for a section, of the journal or in staging.
 pub fn retag_section(section: &mut [u8], geometry: &Geometry, rule: TagRule) {
-    let (per_sector, size) = (geometry.entries_per_sector, geometry.entry_size);
     for entry in 0..geometry.entries {
-        let place = entry / per_sector * 512 + entry % per_sector * size;
+        let place = entry_place(geometry, entry);
         let mut data = [0; 512];
         data[..504].copy_from_slice(&section[(8 + entry) * 512..][..504]);
         data[504..].copy_from_slice(&section[place + 8..place + 16]);
         let mut sector = [0; 8];
         sector.copy_from_slice(&section[place..place + 8]);
-        let tag = &mut section[place + 16..place + size];
+        let tag = &mut section[tag_place(geometry, entry)];
         replace(tag, u64::from_le_bytes(sector), &data, rule);
     }
 }

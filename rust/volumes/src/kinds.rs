@@ -1,6 +1,6 @@
 //! What kinds of sections a journal has, told from its bytes, so that a test may ask that its generator makes them all.
 
-use crate::UNUSED;
+use crate::{crosses, entry_place, padding_place, stores_of, tag_place, UNUSED};
 use reference::volume::{digest_of_sector, Geometry};
 
 /// Something that a journal has.
@@ -38,10 +38,22 @@ pub enum Kind {
     LastSector,
     /// A used entry of a whole section, with a sector that is provided, whose tag does not fit.
     WrongTag,
+    /// A used entry of a whole section, with a sector that is provided, whose tag lies in one sector of the runs.
+    InOneSector,
+    /// The same with a tag that lies across two.
+    AcrossSectors,
+    /// A used entry of a whole section, with a sector that is not provided, whose tag would lie in one sector of a run.
+    InOneSectorNotProvided,
+    /// The same with a tag that would lie across two.
+    AcrossSectorsNotProvided,
+    /// The same with a sector of the last run of numbers below 2^64.
+    AcrossSectorsAtTheEnd,
+    /// A used entry of a whole section with bytes that are not zero behind its tag.
+    Padding,
 }
 
 /// All kinds.
-pub const KINDS: [Kind; 16] = [
+pub const KINDS: [Kind; 22] = [
     Kind::Fresh,
     Kind::Whole,
     Kind::Torn,
@@ -58,6 +70,12 @@ pub const KINDS: [Kind; 16] = [
     Kind::FirstNotProvided,
     Kind::LastSector,
     Kind::WrongTag,
+    Kind::InOneSector,
+    Kind::AcrossSectors,
+    Kind::InOneSectorNotProvided,
+    Kind::AcrossSectorsNotProvided,
+    Kind::AcrossSectorsAtTheEnd,
+    Kind::Padding,
 ];
 
 /// A section of a journal.
@@ -96,15 +114,20 @@ pub fn kinds(volume: &[u8], geometry: &Geometry) -> Vec<Kind> {
     kinds
 }
 
-/// How many stores a replay of the journal makes.
-pub fn stores_to_replay(volume: &[u8], geometry: &Geometry) -> u64 {
+/// The stores that a replay of the journal makes, in order, each by its number among those of its entry: 0 for data, 1 for the
+/// tag, 2 for what of the tag lies in the next sector.
+pub fn stores_to_replay(volume: &[u8], geometry: &Geometry) -> Vec<u64> {
     let sections = sections(volume, geometry);
-    let whole = sections
+    let mut whole: Vec<(u64, &Section)> = sections
         .iter()
-        .filter(|section| section.whole_id().is_some());
-    2 * whole
-        .map(|section| section.used().count() as u64)
-        .sum::<u64>()
+        .filter_map(|section| Some((section.whole_id()?, section)))
+        .collect();
+    whole.sort_by_key(|(id, section)| (*id, section.number));
+    whole
+        .into_iter()
+        .flat_map(|(_, section)| section.used())
+        .flat_map(|(_, sector)| 0..stores_of(geometry, sector))
+        .collect()
 }
 
 fn sections<'a>(volume: &'a [u8], geometry: &'a Geometry) -> Vec<Section<'a>> {
@@ -136,24 +159,50 @@ impl Section<'_> {
         (id != 0 && self.ids().all(|other| other == id)).then_some(id)
     }
 
-    fn place(&self, entry: usize) -> usize {
-        let (per_sector, size) = (self.geometry.entries_per_sector, self.geometry.entry_size);
-        entry / per_sector * 512 + entry % per_sector * size
-    }
-
     /// The used entries and their logical sectors.
     fn used(&self) -> impl Iterator<Item = (usize, u64)> + '_ {
         (0..self.geometry.entries)
-            .map(|entry| (entry, number_at(self.bytes, self.place(entry))))
+            .map(|entry| {
+                let place = entry_place(self.geometry, entry);
+                (entry, number_at(self.bytes, place))
+            })
             .filter(|(_, sector)| *sector != UNUSED)
     }
 
     fn fits(&self, entry: usize, sector: u64) -> bool {
-        let head = &self.bytes[self.place(entry)..][..self.geometry.entry_size];
+        let place = entry_place(self.geometry, entry);
         let mut data = [0; 512];
         data[..504].copy_from_slice(&self.bytes[(8 + entry) * 512..][..504]);
-        data[504..].copy_from_slice(&head[8..16]);
-        digest_of_sector(sector, &data).starts_with(&head[16..])
+        data[504..].copy_from_slice(&self.bytes[place + 8..place + 16]);
+        let tag = &self.bytes[tag_place(self.geometry, entry)];
+        digest_of_sector(sector, &data).starts_with(tag)
+    }
+
+    fn has_padding(&self, entry: usize) -> bool {
+        let padding = &self.bytes[padding_place(self.geometry, entry)];
+        padding.iter().any(|byte| *byte != 0)
+    }
+
+    /// The kinds of a used entry.
+    fn kinds_of_entry(&self, entry: usize, sector: u64) -> Vec<Kind> {
+        let provided = self.geometry.provided as u64;
+        let (beyond, across) = (sector >= provided, crosses(self.geometry, sector));
+        let at_the_end = sector > u64::MAX - self.geometry.run as u64;
+        [
+            (Kind::SectorNotProvided, beyond),
+            (Kind::FirstNotProvided, sector == provided),
+            (Kind::LastSector, sector == UNUSED - 1),
+            (Kind::WrongTag, !beyond && !self.fits(entry, sector)),
+            (Kind::InOneSector, !beyond && !across),
+            (Kind::AcrossSectors, !beyond && across),
+            (Kind::InOneSectorNotProvided, beyond && !across),
+            (Kind::AcrossSectorsNotProvided, beyond && across),
+            (Kind::AcrossSectorsAtTheEnd, at_the_end && across),
+            (Kind::Padding, self.has_padding(entry)),
+        ]
+        .into_iter()
+        .filter_map(|(kind, met)| met.then_some(kind))
+        .collect()
     }
 
     fn kinds(&self) -> Vec<Kind> {
@@ -161,9 +210,9 @@ impl Section<'_> {
             return self.kinds_of_torn();
         };
         let used: Vec<(usize, u64)> = self.used().collect();
-        let provided = self.geometry.provided as u64;
-        let not_fitting =
-            |(entry, sector): &(usize, u64)| *sector < provided && !self.fits(*entry, *sector);
+        let of_entries = used
+            .iter()
+            .flat_map(|(entry, sector)| self.kinds_of_entry(*entry, *sector));
         [
             (Kind::Whole, true),
             (Kind::Misplaced, self.geometry.section_of(id) != self.number),
@@ -173,22 +222,10 @@ impl Section<'_> {
                 Kind::BehindUnused,
                 used.last().is_some_and(|(entry, _)| entry + 1 > used.len()),
             ),
-            (
-                Kind::SectorNotProvided,
-                used.iter().any(|(_, sector)| *sector >= provided),
-            ),
-            (
-                Kind::FirstNotProvided,
-                used.iter().any(|(_, sector)| *sector == provided),
-            ),
-            (
-                Kind::LastSector,
-                used.iter().any(|(_, sector)| *sector == UNUSED - 1),
-            ),
-            (Kind::WrongTag, used.iter().any(not_fitting)),
         ]
         .into_iter()
         .filter_map(|(kind, met)| met.then_some(kind))
+        .chain(of_entries)
         .collect()
     }
 

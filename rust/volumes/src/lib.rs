@@ -3,8 +3,10 @@
 pub mod any;
 pub mod keyed;
 pub mod kinds;
+pub mod tag_sizes;
 
 use reference::volume::{digest_of_sector, Geometry, Layout, TagRule};
+use std::ops::Range;
 
 /// The logical sector of an unused entry.
 pub const UNUSED: u64 = u64::MAX;
@@ -44,6 +46,18 @@ pub fn geometry(layout: &Layout) -> Geometry {
     layout.geometry().expect("the layout is in range")
 }
 
+/// Whether the tag of a sector of this number lies across two sectors: its first byte and its last are not in the same.
+pub fn crosses(geometry: &Geometry, sector: u64) -> bool {
+    let first = (sector % geometry.run as u64) as usize * geometry.tag_size;
+    let last = first + geometry.tag_size - 1;
+    first / 512 != last / 512
+}
+
+/// How many stores write an entry for a sector of this number back.
+pub fn stores_of(geometry: &Geometry, sector: u64) -> u64 {
+    2 + u64::from(crosses(geometry, sector))
+}
+
 /// A volume just formatted, without a key. The reserved sectors and `behind` sectors behind the last run hold bytes of their own.
 pub fn formatted(layout: &Layout, behind: usize) -> Vec<u8> {
     formatted_by(TagRule::Digest, layout, behind)
@@ -59,12 +73,29 @@ pub fn formatted_by(rule: TagRule, layout: &Layout, behind: usize) -> Vec<u8> {
     volume
 }
 
+/// Where an entry stands in a section.
+pub fn entry_place(geometry: &Geometry, entry: usize) -> usize {
+    let per_sector = geometry.entries_per_sector;
+    entry / per_sector * 512 + entry % per_sector * geometry.entry_size
+}
+
+/// Where an entry's tag stands in a section.
+pub fn tag_place(geometry: &Geometry, entry: usize) -> Range<usize> {
+    let start = entry_place(geometry, entry) + 16;
+    start..start + geometry.tag_size
+}
+
+/// Where the zeros behind an entry's tag stand in a section, up to the entry's end.
+pub fn padding_place(geometry: &Geometry, entry: usize) -> Range<usize> {
+    let end = entry_place(geometry, entry) + geometry.entry_size;
+    tag_place(geometry, entry).end..end
+}
+
 /// The bytes of a section that holds these entries, the others unused, each sector with the id.
 pub fn section(geometry: &Geometry, id: u64, entries: &[Entry]) -> Vec<u8> {
     let mut bytes = vec![0; geometry.section_sectors * 512];
-    let (per_sector, size) = (geometry.entries_per_sector, geometry.entry_size);
     for i in 0..geometry.entries {
-        let place = i / per_sector * 512 + i % per_sector * size;
+        let place = entry_place(geometry, i);
         match entries.get(i) {
             None => bytes[place..place + 8].fill(0xff),
             Some(entry) => {
@@ -74,7 +105,7 @@ pub fn section(geometry: &Geometry, id: u64, entries: &[Entry]) -> Vec<u8> {
                 }
                 bytes[place..place + 8].copy_from_slice(&entry.sector.to_le_bytes());
                 bytes[place + 8..place + 16].copy_from_slice(&entry.data[504..]);
-                bytes[place + 16..place + size].copy_from_slice(&tag[..geometry.tag_size]);
+                bytes[tag_place(geometry, i)].copy_from_slice(&tag[..geometry.tag_size]);
                 bytes[(8 + i) * 512..][..504].copy_from_slice(&entry.data[..504]);
             }
         }

@@ -35,12 +35,13 @@ pub enum Phase {
     WritingBack {
         /// The entry that comes next.
         entry: u64,
-        /// Its store that comes next: 0 for its data, 1 for its tag.
+        /// Its store that comes next: 0 for its data, 1 for its tag, 2 for what of the tag lies in the next sector.
         store: u64,
     },
     /// The journal's entries are stored in the runs.
     Recovering {
-        /// The store that comes next; entry i has stores 2i and 2i + 1.
+        /// The store that comes next, counted from the first entry's on: an entry has two, and three where its tag lies across two
+        /// sectors.
         store: u64,
     },
 }

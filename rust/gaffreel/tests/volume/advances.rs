@@ -6,7 +6,7 @@ use crate::loans::{Buffers, Loans, DONE};
 use gaffreel::ffi;
 use gaffreel::volume::STATE_LENGTH;
 use random::{cases, count_compared, Random};
-use reference::volume::{self, Half, Layout, Phase, State, TagRule};
+use reference::volume::{self, Layout, Phase, State, TagRule};
 use volumes::any::{any_layout, any_section, small_layout, with_journal};
 use volumes::{empty_staging, formatted, geometry, section, Entry};
 
@@ -16,13 +16,13 @@ const ACKNOWLEDGED: u64 = 1;
 /// The number where a sector is not provided.
 const SECTOR_RANGE: u32 = 6;
 
-/// A section of it has 88 sectors.
+/// A section of it has 88 sectors, and the tag of sector 17 lies across two.
 const LAYOUT: Layout = Layout {
     reserved: 0,
-    log2_run: 3,
-    tag_size: 32,
+    log2_run: 5,
+    tag_size: 30,
     sections: 2,
-    provided: 9,
+    provided: 18,
 };
 
 /// A step by the proved library: its number, and the first three of its answer.
@@ -77,7 +77,7 @@ fn any_place(random: &mut Random, state: &mut State, section_sectors: u64) {
         },
         2 => Phase::WritingBack {
             entry: random.number() % 4,
-            half: random.pick(&[Half::Data, Half::Tag]),
+            store: random.pick(&[0, 1, 2, 2, 3]),
         },
         _ => {
             state.count = 0;
@@ -137,16 +137,16 @@ fn each_number_of_steps() {
         let staging = empty_staging(&geometry);
         let mut loans = Loans::new(random, &formatted(&LAYOUT, 0), &staging);
         assert_eq!(loans.open(0), DONE);
-        for sector in [8, 3] {
+        for sector in [17, 3] {
             assert_eq!(loans.write(sector), DONE);
         }
         assert_eq!(loans.flush(), DONE);
-        // 88 stores commit the batch, 4 write it back.
-        for steps in 0..=94 {
+        // 88 stores commit the batch, 3 and 2 write it back.
+        for steps in 0..=95 {
             same_as_single_steps(&loans, steps);
             let mut advanced = loans.clone();
             assert_eq!(advanced.advance(steps), DONE);
-            let stores = steps.min(92);
+            let stores = steps.min(93);
             let answer = advanced.answer();
             assert_eq!(answer[3..], [stores, u64::from(steps >= 88)]);
         }
@@ -158,7 +158,7 @@ fn each_number_of_steps() {
 fn each_number_of_steps_up_to_a_refused_one() {
     cases(1, |random| {
         let geometry = geometry(&LAYOUT);
-        let entries = [8, 3, 9].map(|sector| Entry::new(sector, 1));
+        let entries = [17, 3, 18].map(|sector| Entry::new(sector, 1));
         let staging = section(&geometry, 0, &entries);
         let mut loans = Loans::new(random, &formatted(&LAYOUT, 0), &staging);
         loans.put_state(&State {
@@ -167,14 +167,14 @@ fn each_number_of_steps_up_to_a_refused_one() {
             count: 3,
             id: 1,
         });
-        // 88 stores commit the batch, 4 write its first two entries back.
-        for steps in 0..=94 {
+        // 88 stores commit the batch, 3 and 2 write its first two entries back.
+        for steps in 0..=95 {
             same_as_single_steps(&loans, steps);
             let mut advanced = loans.clone();
             let number = advanced.advance(steps);
             let answer = advanced.answer();
-            assert_eq!(answer[3..], [steps.min(92), u64::from(steps >= 88)]);
-            if steps <= 92 {
+            assert_eq!(answer[3..], [steps.min(93), u64::from(steps >= 88)]);
+            if steps <= 93 {
                 assert_eq!(number, DONE);
             } else {
                 assert_eq!((number, &answer[..3]), (SECTOR_RANGE, &[1, 2, 0][..]));

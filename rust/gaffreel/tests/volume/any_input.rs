@@ -6,6 +6,7 @@ use reference::volume::{Layout, Phase, State, TagRule};
 use volumes::any::{any_layout, any_number, any_range, any_section, any_staging, any_state};
 use volumes::any::{any_volume, small_layout, with_journal};
 use volumes::keyed::{any_key, other_key, retag, wrong_key_length};
+use volumes::tag_sizes::TagSizes;
 use volumes::{formatted, geometry};
 
 /// A volume of any kind, a state of any kind, staging for it, a sector's bytes of a length that is seldom wrong.
@@ -59,8 +60,10 @@ fn any_steps(random: &mut Random) -> u64 {
 
 #[test]
 fn any_call() {
+    let mut sizes = TagSizes::new();
     cases(5_000, |random| {
         let layout = any_layout(random);
+        sizes.add(&layout);
         let loans = any_loans(random, &layout);
         loans.clone().format(&layout);
         let reserved = any_reserved(random, &layout);
@@ -79,6 +82,7 @@ fn any_call() {
             told.told_step();
         }
     });
+    sizes.assert_all(500);
 }
 
 /// One call of any kind; most can be taken.
@@ -114,8 +118,10 @@ fn one_call(random: &mut Random, loans: &mut Loans, layout: &Layout) {
 /// A volume is opened, if it can be, and worked by calls in a row.
 #[test]
 fn calls_in_a_row() {
+    let mut sizes = TagSizes::new();
     cases(1_000, |random| {
         let layout = small_layout(random);
+        sizes.add(&layout);
         let volume = with_journal(random, &layout);
         let mut loans = Loans::new(random, &volume, &[]);
         assert_eq!(loans.query(layout.reserved), DONE);
@@ -126,6 +132,7 @@ fn calls_in_a_row() {
             one_call(random, &mut loans, &layout);
         }
     });
+    sizes.assert_all(100);
 }
 
 /// Batches up to a full one, ids up to the last, and damaged bytes in the runs.

@@ -5,23 +5,24 @@ use crate::by_reference::{COUNT, ID, PHASE, UNUSED};
 use crate::loans::{Buffers, Loans};
 use gaffreel::volume::{State, MOST_SECTORS, STATE_LENGTH};
 use random::{cases, Lent, Random};
-use reference::volume::{self, Half, Layout, Phase};
+use reference::volume::{self, Layout, Phase};
 use volumes::any::{any_number, any_range};
 use volumes::keyed::{any_key, wrong_key_length};
 use volumes::{empty_staging, formatted, geometry, put_section, section, Entry};
 
+/// The tag of sector 17 lies across two sectors.
 const LAYOUT: Layout = Layout {
     reserved: 1,
-    log2_run: 3,
-    tag_size: 32,
+    log2_run: 5,
+    tag_size: 30,
     sections: 1,
-    provided: 5,
+    provided: 18,
 };
 
 /// A sound state in any phase, with a journal and staging for it.
 pub fn sound(random: &mut Random) -> Loans {
     let geometry = geometry(&LAYOUT);
-    let entries = [Entry::new(3, 7), Entry::new(1, 8)];
+    let entries = [Entry::new(3, 7), Entry::new(17, 8)];
     let mut volume = formatted(&LAYOUT, random.length(0..=1));
     put_section(&mut volume, &geometry, 0, &section(&geometry, 1, &entries));
     let mut loans = Loans::new(random, &volume, &section(&geometry, 0, &entries));
@@ -29,10 +30,13 @@ pub fn sound(random: &mut Random) -> Loans {
         0 => (Phase::Filling, random.number() % 81),
         1 => (Phase::Committing { sector: 3 }, 2),
         2 => {
-            let half = random.pick(&[Half::Data, Half::Tag]);
-            (Phase::WritingBack { entry: 1, half }, 2)
+            let store = random.number() % 3;
+            (Phase::WritingBack { entry: 1, store }, 2)
         }
-        _ => (Phase::Recovering { store: 3 }, 0),
+        _ => {
+            let store = random.pick(&[3, 4]);
+            (Phase::Recovering { store }, 0)
+        }
     };
     loans.put_state(&volume::State {
         layout: LAYOUT,
@@ -154,7 +158,7 @@ fn states_from_bytes() {
         let mut bytes = [0; STATE_LENGTH];
         random.fill(&mut bytes);
         let phase = random.number() % 5;
-        let place = [random.pick(&[0, 0, 1, 9]), random.pick(&[0, 0, 1, 2])];
+        let place = [random.pick(&[0, 0, 1, 9]), random.pick(&[0, 0, 1, 2, 3])];
         let unused = [0; 3].map(|none| random.pick(&[none, none, none, 1, 1 << 56]));
         let numbers = [&unused[..], &[phase], &place].concat();
         put_numbers(&mut bytes[8 * UNUSED..], &numbers);

@@ -2,9 +2,7 @@
 
 use crate::loans::DONE;
 use gaffreel::volume::{ANSWER_LENGTH, LAYOUT_LENGTH, STATE_LENGTH};
-use reference::volume::{
-    self, Flushed, Half, Layout, Phase, Refusal, Said, State, Stepped, TagRule,
-};
+use reference::volume::{self, Flushed, Layout, Phase, Refusal, Said, State, Stepped, TagRule};
 
 const WRONG_LENGTH: u32 = 1;
 
@@ -339,35 +337,35 @@ pub fn holds_state(buffer: &[u8]) -> bool {
         )
 }
 
-/// The state in a buffer. Refused if there is none, or one that is not sound since an entry has but two stores.
+/// The layout in the numbers of a state.
+pub fn layout_in(numbers: &[u64]) -> Layout {
+    Layout {
+        reserved: numbers[0],
+        log2_run: numbers[1],
+        tag_size: numbers[2],
+        sections: numbers[3],
+        provided: numbers[4],
+    }
+}
+
+/// The state in a buffer. Refused if there is none.
 fn state_in(buffer: &[u8]) -> Result<State, Refusal> {
     if !holds_state(buffer) {
         return Err(Refusal::LengthOrState);
     }
     let numbers = numbers_in(buffer);
     let (first, second) = (numbers[FIRST], numbers[SECOND]);
-    let phase = match (numbers[PHASE], second) {
-        (0, _) => Phase::Filling,
-        (1, _) => Phase::Committing { sector: first },
-        (2, 0) => Phase::WritingBack {
+    let phase = match numbers[PHASE] {
+        FILLING => Phase::Filling,
+        COMMITTING => Phase::Committing { sector: first },
+        WRITING_BACK => Phase::WritingBack {
             entry: first,
-            half: Half::Data,
+            store: second,
         },
-        (2, 1) => Phase::WritingBack {
-            entry: first,
-            half: Half::Tag,
-        },
-        (2, _) => return Err(Refusal::LengthOrState),
         _ => Phase::Recovering { store: first },
     };
     Ok(State {
-        layout: Layout {
-            reserved: numbers[0],
-            log2_run: numbers[1],
-            tag_size: numbers[2],
-            sections: numbers[3],
-            provided: numbers[4],
-        },
+        layout: layout_in(&numbers),
         phase,
         count: numbers[COUNT],
         id: numbers[ID],
@@ -377,13 +375,10 @@ fn state_in(buffer: &[u8]) -> Result<State, Refusal> {
 /// Writes a state to a buffer of its length.
 pub fn put_state(buffer: &mut [u8], state: &State) {
     let place = match state.phase {
-        Phase::Filling => [0, 0, 0],
-        Phase::Committing { sector } => [1, sector, 0],
-        Phase::WritingBack { entry, half } => match half {
-            Half::Data => [2, entry, 0],
-            Half::Tag => [2, entry, 1],
-        },
-        Phase::Recovering { store } => [3, store, 0],
+        Phase::Filling => [FILLING, 0, 0],
+        Phase::Committing { sector } => [COMMITTING, sector, 0],
+        Phase::WritingBack { entry, store } => [WRITING_BACK, entry, store],
+        Phase::Recovering { store } => [RECOVERING, store, 0],
     };
     let layout = layout_numbers(&state.layout);
     let behind = [state.count, state.id];

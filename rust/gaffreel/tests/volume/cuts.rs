@@ -1,7 +1,8 @@
 //! Short histories with a cut after every store, and before and after every store of the recovery that follows; journals of
-//! one, two and three sections.
+//! one, two and three sections, and tags that lie across two sectors.
 
-use crate::loans::{Loans, DONE};
+use crate::by_reference::{RECOVERING, WRITING_BACK};
+use crate::loans::{Loans, Place, DONE};
 use random::{cases, Random, Reached};
 use reference::volume::{Layout, TagRule};
 use volumes::keyed::any_key;
@@ -13,16 +14,53 @@ const FILLING: u64 = 2;
 /// Batches of sectors, written and flushed one after the other.
 type Batches<'a> = &'a [&'a [u64]];
 
-/// Histories with their tag sizes and numbers of sections.
-const HISTORIES: [(u64, u64, Batches); 4] = [
-    (32, 1, &[&[0], &[1, 0]]),
-    (8, 1, &[&[3, 3]]),
-    (16, 2, &[&[0, 8], &[0]]),
-    (32, 3, &[&[2], &[2], &[2, 2], &[2]]),
+const fn layout(tag_size: u64, sections: u64) -> Layout {
+    Layout {
+        reserved: 1,
+        log2_run: 3,
+        tag_size,
+        sections,
+        provided: 10,
+    }
+}
+
+/// The tag of sector 17 lies across two sectors.
+const fn across_sectors(sections: u64) -> Layout {
+    Layout {
+        log2_run: 5,
+        provided: 24,
+        ..layout(30, sections)
+    }
+}
+
+/// Histories with their layouts.
+const HISTORIES: [(Layout, Batches); 8] = [
+    (layout(32, 1), &[&[0], &[1, 0]]),
+    (layout(8, 1), &[&[3, 3]]),
+    (layout(16, 2), &[&[0, 8], &[0]]),
+    (layout(32, 3), &[&[2], &[2], &[2, 2], &[2]]),
+    (layout(20, 1), &[&[7, 0]]),
+    (layout(1, 1), &[&[9]]),
+    (across_sectors(1), &[&[16, 17, 18]]),
+    (across_sectors(2), &[&[17], &[18, 17]]),
 ];
 
+/// Where a tag is stored in part: between its two stores, in writing back and in recovering.
+const IN_A_TAG: [Place; 2] = [(WRITING_BACK, 2), (RECOVERING, 2)];
+
+/// How often there was a cut at each place.
+type Cuts = Reached<Place>;
+
 /// State and staging are lost, and the volume is opened again. Gives the stores to come.
-fn open(random: &mut Random, loans: &mut Loans, layout: &Layout) -> u64 {
+fn cut_and_open(
+    random: &mut Random,
+    loans: &mut Loans,
+    layout: &Layout,
+    reached: &mut Cuts,
+) -> u64 {
+    if let Some(place) = loans.lent().place() {
+        reached.add(place);
+    }
     loans.cut(random);
     assert_eq!(loans.open(layout.reserved), DONE);
     loans.answer()[0]
@@ -52,12 +90,13 @@ fn read_all(loans: &mut Loans, layout: &Layout) {
 }
 
 /// Cuts a copy here, recovers it, and goes on with one more batch. Gives the number of the recovery's stores.
-fn cut_here(random: &mut Random, loans: &Loans, layout: &Layout) -> u64 {
+fn cut_here(random: &mut Random, loans: &Loans, layout: &Layout, reached: &mut Cuts) -> u64 {
     let mut loans = loans.clone();
-    let stores = open(random, &mut loans, layout);
+    let stores = cut_and_open(random, &mut loans, layout, reached);
     for store in 0..=stores {
         let mut again = loans.clone();
-        assert_eq!(open(random, &mut again, layout), stores);
+        let found = cut_and_open(random, &mut again, layout, reached);
+        assert_eq!(found, stores);
         advance_to_filling(&mut again);
         read_all(&mut again, layout);
         if store < stores {
@@ -68,7 +107,7 @@ fn cut_here(random: &mut Random, loans: &Loans, layout: &Layout) -> u64 {
     write(random, &mut loans, 0);
     assert_eq!(loans.flush(), DONE);
     advance_to_filling(&mut loans);
-    open(random, &mut loans, layout);
+    cut_and_open(random, &mut loans, layout, reached);
     stores
 }
 
@@ -87,19 +126,20 @@ fn cut_everywhere(
     layout: &Layout,
     batches: Batches,
     key: Option<&[u8]>,
+    reached: &mut Cuts,
 ) -> Vec<u64> {
     let mut loans = fresh(random, layout, key);
     let mut recoveries = vec![];
-    open(random, &mut loans, layout);
+    cut_and_open(random, &mut loans, layout, reached);
     for batch in batches {
         for sector in *batch {
             write(random, &mut loans, *sector);
         }
-        recoveries.push(cut_here(random, &loans, layout));
+        recoveries.push(cut_here(random, &loans, layout, reached));
         assert_eq!(loans.flush(), DONE);
         loop {
             step(random, &mut loans);
-            recoveries.push(cut_here(random, &loans, layout));
+            recoveries.push(cut_here(random, &loans, layout, reached));
             if loans.answer()[2] & FILLING != 0 {
                 break;
             }
@@ -121,21 +161,19 @@ fn cut_after_each_store_under_a_key() {
 
 fn cut_short_histories(key: fn(&mut Random) -> Option<Vec<u8>>) {
     let mut reached = Reached::new();
+    let mut cuts = Cuts::new();
     cases(1, |random| {
-        for (tag_size, sections, batches) in HISTORIES {
-            let layout = Layout {
-                reserved: 1,
-                log2_run: 3,
-                tag_size,
-                sections,
-                provided: 10,
-            };
+        for (layout, batches) in HISTORIES {
             let key = key(random);
-            for stores in cut_everywhere(random, &layout, batches, key.as_deref()) {
-                reached.add((sections, stores > 0));
+            let recoveries = cut_everywhere(random, &layout, batches, key.as_deref(), &mut cuts);
+            for stores in recoveries {
+                reached.add((layout.sections, stores > 0));
             }
         }
     });
+    // Each of the three tags once in writing back; each of its recoveries is cut there again.
+    cuts.assert_each(3, [IN_A_TAG[0]]);
+    cuts.assert_each(15, [IN_A_TAG[1]]);
     // With nothing to replay, and with something.
     for sections in 1..=3 {
         reached.assert_each(80, [(sections, false)]);

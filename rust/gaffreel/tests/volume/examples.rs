@@ -1,4 +1,4 @@
-//! Document 01's examples, by the safe wrapper alone.
+//! Document 01's examples, and document 02's for order 4, by the safe wrapper alone.
 
 use gaffreel::volume::{advance, flush, format, open, query, read, step, write};
 use gaffreel::volume::{Advanced, Flushed, Layout, Phase, Said, State, Stepped};
@@ -13,7 +13,23 @@ const BENCH: Layout = Layout {
     provided: 16,
 };
 
-/// The bench volume with its staging, open.
+/// r 0, T 20, N 8, S 1, P 8.
+const WARD: Layout = Layout {
+    log2_run: 3,
+    tag_size: 20,
+    provided: 8,
+    ..BENCH
+};
+
+/// r 0, T 30, N 32, S 1, P 24: the tag of sector 17 is at the bytes 510 to 539 of the tag area.
+const ACROSS_SECTORS: Layout = Layout {
+    log2_run: 5,
+    tag_size: 30,
+    provided: 24,
+    ..BENCH
+};
+
+/// A volume with its staging, open.
 struct World {
     volume: Vec<u8>,
     staging: Vec<u8>,
@@ -21,16 +37,23 @@ struct World {
 }
 
 impl World {
+    /// The bench volume.
     fn new() -> World {
-        let mut volume = vec![0; 120 * 512];
-        format(&mut volume, &BENCH).unwrap();
-        World::open(volume).0
+        World::of(&BENCH, 120)
+    }
+
+    /// A volume of this layout, which has so many sectors.
+    fn of(layout: &Layout, sectors: usize) -> World {
+        let mut volume = vec![0; sectors * 512];
+        format(&mut volume, layout).unwrap();
+        let world = World::open(volume).0;
+        assert_eq!(world.state.layout, *layout);
+        world
     }
 
     /// The volume opened, and how many stores are to come.
     fn open(volume: Vec<u8>) -> (World, u64) {
         let queried = query(&volume, 0).unwrap();
-        assert_eq!(queried.layout, BENCH);
         let mut staging = vec![7; queried.staging_length];
         let opened = open(&volume, 0, &mut staging).unwrap();
         let world = World {
@@ -147,4 +170,72 @@ fn the_same_sector_twice() {
         acknowledged: false,
     };
     assert_eq!(world.advance(1), idle);
+}
+
+/// E is 96 and M 104; the volume has 128 sectors.
+#[test]
+fn tags_of_20_bytes() {
+    let needed = 128;
+    let refused = Refusal::VolumeTooShort { needed };
+    assert_eq!(format(&mut vec![0; 127 * 512], &WARD), Err(refused));
+    let mut world = World::of(&WARD, 128);
+    assert_eq!(world.staging.len(), 104 * 512);
+    world.write(7, 1).unwrap();
+    flush(&mut world.state).unwrap();
+    let advanced = world.advance(u64::MAX);
+    assert_eq!((advanced.done, advanced.acknowledged), (106, true));
+    for i in 0..96 {
+        world.write(i % 8, i as u8).unwrap();
+    }
+    assert_eq!(world.write(0, 1), Err(Refusal::BatchFull));
+}
+
+/// Stores to 8 to 95; of sectors 16 to 18, which lie at 120 to 122, the data and then the tags, of which the second has two stores.
+const WRITTEN_BACK: [u64; 7] = [120, 96, 121, 96, 97, 122, 97];
+
+#[test]
+fn a_tag_across_two_sectors() {
+    let mut world = World::of(&ACROSS_SECTORS, 128);
+    for sector in 16..=18 {
+        world.write(sector, sector as u8).unwrap();
+    }
+    flush(&mut world.state).unwrap();
+    assert_eq!(world.advance(87).done, 87);
+    let stored = Some(95);
+    let said = Said::Acknowledged;
+    assert_eq!(world.step(), Stepped { stored, said });
+    for (place, sector) in (1..).zip(WRITTEN_BACK) {
+        let stored = Some(sector);
+        let said = match place {
+            7 => Said::Filling,
+            _ => Said::Nothing,
+        };
+        assert_eq!(world.step(), Stepped { stored, said });
+        if place == 4 {
+            let (entry, store) = (1, 2);
+            assert_eq!(world.state.phase, Phase::WritingBack { entry, store });
+        }
+    }
+    for sector in 16..=18 {
+        assert_eq!(world.read(sector), sector as u8);
+    }
+}
+
+#[test]
+fn a_cut_after_each_store_of_a_tag_across_two_sectors() {
+    for stores in 0..=95 {
+        let mut world = World::of(&ACROSS_SECTORS, 128);
+        for sector in 16..=18 {
+            world.write(sector, sector as u8).unwrap();
+        }
+        flush(&mut world.state).unwrap();
+        assert_eq!(world.advance(stores).done, stores);
+        let (mut world, to_come) = World::open(world.volume);
+        assert_eq!(to_come, if stores < 88 { 0 } else { 7 });
+        assert_eq!(world.advance(u64::MAX).done, to_come);
+        for sector in 0..24 {
+            let kept = stores >= 88 && (16..=18).contains(&sector);
+            assert_eq!(world.read(sector), if kept { sector as u8 } else { 0 });
+        }
+    }
 }

@@ -29,6 +29,8 @@ enum Kind {
     /// The one that acknowledges the batch.
     LastCommit,
     WriteBack,
+    /// What of a tag lies in the next sector, in writing back.
+    RestOfTag,
     Replay,
 }
 
@@ -57,7 +59,7 @@ impl Flash<'_> {
 
     fn writes(&mut self) {
         for _ in 0..self.random.length(1..=4) {
-            let sector = self.random.number() % self.layout.provided;
+            let sector = volumes::any::any_sector(self.random, &self.layout);
             let bytes = any_sector(self.random);
             let refused = self.volume.write(sector, &bytes).is_err();
             let bytes = bytes.to_vec();
@@ -170,6 +172,7 @@ impl Flash<'_> {
 fn kind(phase: Phase, said: Said) -> Kind {
     match (phase, said) {
         (Phase::Recovering { .. }, _) => Kind::Replay,
+        (Phase::WritingBack { store: 2, .. }, _) => Kind::RestOfTag,
         (Phase::WritingBack { .. }, _) => Kind::WriteBack,
         (_, Said::Acknowledged) => Kind::LastCommit,
         _ => Kind::Commit,
@@ -182,6 +185,7 @@ fn outcome(random: &mut Random, kind: Kind) -> Outcome {
         Kind::Commit => 300,
         Kind::Replay => 32,
         Kind::LastCommit | Kind::WriteBack => 6,
+        Kind::RestOfTag => 4,
     };
     match random.number() % choices {
         0 => Outcome::GivenUp,
@@ -240,6 +244,8 @@ fn made_again_or_given_up_under(key: Key) {
         let outcomes = [Outcome::Made, Outcome::MadeAgain, Outcome::GivenUp];
         reached.assert_each(50, outcomes.map(|outcome| (kind, outcome)));
     }
+    let outcomes = [Outcome::Made, Outcome::MadeAgain, Outcome::GivenUp];
+    reached.assert_each(10, outcomes.map(|outcome| (Kind::RestOfTag, outcome)));
 }
 
 /// A section of it has 88 sectors.

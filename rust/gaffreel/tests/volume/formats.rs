@@ -3,8 +3,10 @@
 use crate::loans::{Loans, DONE};
 use random::{cases, Random};
 use reference::volume::Layout;
+use volumes::any::any_tag_size;
 use volumes::geometry;
 use volumes::keyed::{any_key, KEY_LENGTHS};
+use volumes::tag_sizes::TagSizes;
 
 /// A layout in range whose volume has some hundred sectors.
 fn layout(random: &mut Random) -> Layout {
@@ -16,7 +18,7 @@ fn layout(random: &mut Random) -> Layout {
     Layout {
         reserved: random.pick(&[0, 1, 63, 64]),
         log2_run: random.length(3..=15) as u64,
-        tag_size: random.pick(&[8, 16, 32]),
+        tag_size: any_tag_size(random),
         sections: random.pick(&[1, 1, 2, 5]),
         provided: provided as u64,
     }
@@ -43,8 +45,10 @@ fn formats_with_a_key() {
 }
 
 fn formats_under(key: fn(&mut Random) -> Option<Vec<u8>>) {
+    let mut sizes = TagSizes::new();
     cases(400, |random| {
         let layout = layout(random);
+        sizes.add(&layout);
         let geometry = geometry(&layout);
         let sectors = geometry.sectors + random.length(0..=2);
         let volume = unformatted(random, &layout, sectors);
@@ -62,6 +66,7 @@ fn formats_under(key: fn(&mut Random) -> Option<Vec<u8>>) {
         }
         assert_eq!(loans.verify(0, layout.provided), DONE);
     });
+    sizes.assert_all(50);
 }
 
 /// Each rule that a format can meet.
@@ -76,7 +81,10 @@ fn refused_formats() {
         match random.number() % 8 {
             0 => layout.reserved = random.pick(&[65, 1 << 32, u64::MAX]),
             1 => layout.log2_run = random.pick(&[0, 2, 16, 64, 259, u64::MAX]),
-            2 => layout.tag_size = random.number() % 40,
+            2 => {
+                let any = random.number() % 40;
+                layout.tag_size = random.pick(&[any, 0, 33, 256 + 20, (1 << 32) + 8, u64::MAX]);
+            }
             3 => layout.sections = random.pick(&[0, 65, (1 << 32) + 1, u64::MAX]),
             4 => layout.provided = random.pick(&[0, 65_536, 65_537, (1 << 32) + 1, u64::MAX]),
             // One byte of the superblock, if it is there.
@@ -97,11 +105,14 @@ fn refused_formats() {
     });
 }
 
-/// The greatest volumes that there can be, with the shortest and the longest tags.
+/// The greatest volumes that there can be: with the largest sections, with tags that lie across two sectors, with the largest tag
+/// areas.
 #[test]
 fn greatest_volumes() {
     cases(1, |random| {
-        for (tag_size, reserved, sections, provided) in [(8, 64, 64, 53_688), (32, 0, 1, 61_344)] {
+        for (tag_size, reserved, sections, provided) in
+            [(8, 64, 64, 53_688), (20, 0, 1, 62_864), (32, 0, 1, 61_344)]
+        {
             let layout = Layout {
                 reserved,
                 log2_run: 15,

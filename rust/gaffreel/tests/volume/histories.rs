@@ -1,12 +1,15 @@
 //! Long histories: calls in a row on one small volume, its state kept from call to call, with cuts, damaged bytes and ids
 //! near the last. Under a key, the calls also come with another key, with one of a wrong length and without one. Asked of them:
-//! that each call answers each number that it can in a history.
+//! that each call answers each number that it can in a history, that all tag sizes come, and steps and cuts where a tag is stored
+//! in part.
 
-use crate::loans::{Loans, DONE};
+use crate::by_reference::{numbers_in, PHASE, RECOVERING, SECOND, WRITING_BACK};
+use crate::loans::{Loans, Place, DONE};
 use random::{cases, Lent, Random, Reached};
 use reference::volume::{Geometry, Layout, TagRule};
-use volumes::any::{any_number, any_range};
+use volumes::any::{any_number, any_range, any_sector, any_tag_size, with_tag_across_sectors};
 use volumes::keyed::{any_key, other_key, wrong_key_length};
+use volumes::tag_sizes::TagSizes;
 use volumes::{formatted_by, geometry, put_id, put_ids};
 
 /// What was called, and the number that it answered.
@@ -66,14 +69,22 @@ const WITH_ANOTHER_KEY: [Answered; 9] = [
     ("verify with another key", 7),
 ];
 
-/// Small volumes, so that all their bytes are soon compared.
+/// Where a tag is stored in part: between its two stores.
+const IN_A_TAG: [Place; 2] = [(WRITING_BACK, 2), (RECOVERING, 2)];
+
+/// Small volumes, so that all their bytes are soon compared; most have the smaller sections of longer tags.
 fn layout(random: &mut Random, sections: &[u64]) -> Layout {
-    Layout {
+    let any = any_tag_size(random);
+    let layout = Layout {
         reserved: random.pick(&[0, 0, 1]),
         log2_run: random.pick(&[3, 3, 4]),
-        tag_size: random.pick(&[32, 32, 32, 16, 8]),
+        tag_size: random.pick(&[any, any, 32]),
         sections: random.pick(sections),
         provided: random.length(1..=12) as u64,
+    };
+    match random.number() % 3 {
+        0 => with_tag_across_sectors(random, layout),
+        _ => layout,
     }
 }
 
@@ -92,6 +103,8 @@ fn volume(random: &mut Random, layout: &Layout, geometry: &Geometry, rule: TagRu
 struct History<'a> {
     random: &'a mut Random,
     reached: &'a mut Reached<Answered>,
+    /// The places of cuts.
+    cuts: &'a mut Reached<Option<Place>>,
     layout: Layout,
     geometry: Geometry,
     /// The key of the volume, if it has one.
@@ -143,7 +156,7 @@ impl History<'_> {
         match self.random.number() % 12 {
             0 => self.layout.provided,
             1 => any_number(self.random),
-            2..=5 => self.random.number() % self.layout.provided,
+            2..=5 => any_sector(self.random, &self.layout),
             _ => self.random.number() % self.layout.provided.min(3),
         }
     }
@@ -190,7 +203,16 @@ impl History<'_> {
             if number != DONE || self.loans.answer()[0] == 0 {
                 return;
             }
+            if self.in_a_tag_written_back() && self.random.number().is_multiple_of(4) {
+                return self.cut();
+            }
         }
+    }
+
+    /// Whether the state names the third store of an entry that is written back.
+    fn in_a_tag_written_back(&self) -> bool {
+        let numbers = numbers_in(self.loans.lent().state.bytes());
+        (numbers[PHASE], numbers[SECOND]) == IN_A_TAG[0]
     }
 
     fn advance(&mut self) {
@@ -221,6 +243,7 @@ impl History<'_> {
 
     /// Power is lost, a few calls find no state, and the volume is opened, or else another is.
     fn cut(&mut self) {
+        self.cuts.add(self.loans.lent().place());
         self.loans.cut(self.random);
         if self.random.number().is_multiple_of(4) {
             self.write();
@@ -264,10 +287,12 @@ impl History<'_> {
         self.loans.put(|lent| &mut lent.volume, place, &[byte]);
     }
 
-    /// The first entry's sector is another.
+    /// The first entry's sector is another, often one that is not provided.
     fn damage_staging(&mut self) {
-        let sector = self.sector().to_le_bytes();
-        self.loans.put(|lent| &mut lent.staging, 0, &sector);
+        let sector = self.sector();
+        let sector = self.random.pick(&[sector, self.layout.provided]);
+        let bytes = sector.to_le_bytes();
+        self.loans.put(|lent| &mut lent.staging, 0, &bytes);
     }
 
     /// All sectors of a section get an id.
@@ -304,8 +329,11 @@ fn histories(
     key: fn(&mut Random) -> Option<Vec<u8>>,
 ) -> Reached<Answered> {
     let mut reached = Reached::new();
+    let mut cuts = Reached::new();
+    let mut sizes = TagSizes::new();
     cases(count, |random| {
         let layout = layout(random, sections);
+        sizes.add(&layout);
         let geometry = geometry(&layout);
         let key = key(random);
         let volume = volume(random, &layout, &geometry, rule(&key));
@@ -316,6 +344,7 @@ fn histories(
             loans,
             random,
             reached: &mut reached,
+            cuts: &mut cuts,
             layout,
             geometry,
             key,
@@ -328,6 +357,10 @@ fn histories(
     });
     reached.assert_each(1_000, OFTEN);
     reached.assert_each(20, SELDOM);
+    let [written_back, recovered] = IN_A_TAG.map(Some);
+    cuts.assert_each(20, [written_back]);
+    cuts.assert_each(3, [recovered]);
+    sizes.assert_all(50);
     reached
 }
 

@@ -1,12 +1,16 @@
 //! Journals of any kind: opened, and replayed from any store on, also where open would refuse.
 
+use crate::by_reference::put_numbers;
 use crate::loans::Loans;
 use random::{cases, Random, Reached};
-use reference::volume::{Geometry, Half, Layout, Phase, State, TagRule};
-use volumes::any::{any_number, any_section, small_layout, with_journal};
+use reference::volume::{Geometry, Layout, Phase, State, TagRule};
+use volumes::any::{across_sectors, any_number, any_section, any_sector};
+use volumes::any::{small_layout, with_journal};
 use volumes::keyed::{any_key, retag};
-use volumes::kinds::{kinds, KINDS};
-use volumes::{empty_staging, formatted, geometry, put_id, put_section, section, Entry};
+use volumes::kinds::{kinds, stores_to_replay, Kind, KINDS};
+use volumes::tag_sizes::TagSizes;
+use volumes::{crosses, empty_staging, entry_place, formatted, geometry};
+use volumes::{put_id, put_section, section, Entry};
 
 /// Singly a few of the steps, by either call, then all that are left at once.
 fn run(random: &mut Random, loans: &mut Loans) {
@@ -51,8 +55,10 @@ fn opens_with_a_key() {
 
 fn opens_under(count: u64, key: fn(&mut Random) -> Option<Vec<u8>>) {
     let mut reached = Reached::new();
+    let mut sizes = TagSizes::new();
     cases(count, |random| {
         let layout = small_layout(random);
+        sizes.add(&layout);
         let mut volume = with_journal(random, &layout);
         for kind in kinds(&volume, &geometry(&layout)) {
             reached.add(kind);
@@ -64,24 +70,62 @@ fn opens_under(count: u64, key: fn(&mut Random) -> Option<Vec<u8>>) {
         opened(random, &volume, &layout, key.as_deref());
     });
     reached.assert_each(100, KINDS);
+    sizes.assert_all(500);
 }
 
+/// Where a recovery begins.
+#[derive(Clone, Copy, Debug, PartialEq, Eq, PartialOrd, Ord)]
+enum Start {
+    /// At the first, the second or the third store of an entry.
+    Store(u64),
+    /// At the last of all.
+    Last,
+    /// Behind it.
+    Behind,
+}
+
+/// Also at the last store and behind it, of journals with entries whose sectors are not provided: these have two or three stores as
+/// others do.
 #[test]
 fn recoveries_from_any_store() {
+    const NOT_PROVIDED: [Kind; 3] = [
+        Kind::InOneSectorNotProvided,
+        Kind::AcrossSectorsNotProvided,
+        Kind::AcrossSectorsAtTheEnd,
+    ];
+    let mut reached = Reached::new();
+    let mut with_not_provided = Reached::new();
     cases(3_000, |random| {
         let layout = small_layout(random);
+        let geometry = geometry(&layout);
         let volume = with_journal(random, &layout);
-        let staging = empty_staging(&geometry(&layout));
+        let staging = empty_staging(&geometry);
         let mut loans = Loans::new(random, &volume, &staging);
-        let store = match random.number() % 3 {
-            0 => 0,
-            1 => random.number() % 8,
-            _ => random.number() % 400,
+        let stores = stores_to_replay(&volume, &geometry);
+        let any = random.length(0..=400);
+        let few = random.length(0..=8);
+        let last = stores.len().saturating_sub(1);
+        let third = stores.iter().position(|number| *number == 2);
+        let store = random.pick(&[0, few, any, third.unwrap_or(few), last, last + 1]);
+        let start = match stores.get(store) {
+            Some(_) if store == last => Start::Last,
+            Some(number) => Start::Store(*number),
+            None => Start::Behind,
         };
-        loans.put_state(&recovering(&layout, store));
+        reached.add(start);
+        for kind in kinds(&volume, &geometry) {
+            with_not_provided.add((kind, start));
+        }
+        loans.put_state(&recovering(&layout, store as u64));
         loans.read(random.number() % layout.provided);
         run(random, &mut loans);
     });
+    let starts = [0, 1, 2].map(Start::Store).into_iter();
+    reached.assert_each(20, starts.chain([Start::Last, Start::Behind]));
+    for kind in NOT_PROVIDED {
+        let starts = [Start::Store(0), Start::Last, Start::Behind];
+        with_not_provided.assert_each(10, starts.map(|start| (kind, start)));
+    }
 }
 
 /// Many sections, whose ids are in no order by place; most are whole.
@@ -97,7 +141,7 @@ fn with_many_sections(random: &mut Random, layout: &Layout, geometry: &Geometry)
             _ => round * layout.sections + number as u64 + 1,
         };
         let entries: Vec<Entry> = (0..random.length(0..=3))
-            .map(|_| Entry::new(random.number() % layout.provided, random.number() as u8))
+            .map(|_| Entry::new(any_sector(random, layout), random.number() as u8))
             .collect();
         put_section(
             &mut volume,
@@ -130,18 +174,18 @@ fn many_sections() {
     });
 }
 
-/// Staging of any kind is committed and written back from any place on, with ids up to the last.
+/// Staging of any kind is committed and written back from any place on, with ids up to the last. Third stores come of entries that
+/// have one and of such as have none, with sectors that are provided and that are not.
 #[test]
 fn commits_and_write_backs() {
+    let mut reached = Reached::new();
     cases(4_000, |random| {
         let layout = small_layout(random);
         let geometry = geometry(&layout);
-        let staging = match random.number() % 3 {
+        let mut staging = match random.number() % 3 {
             0 => random.bytes(geometry.staging_length()),
             _ => any_section(random, &layout, &geometry, 0),
         };
-        let volume = with_journal(random, &layout);
-        let mut loans = Loans::new(random, &volume, &staging);
         let count = random.length(1..=3) as u64;
         let near_the_end = geometry.section_sectors as u64 - random.length(1..=5) as u64;
         let phase = match random.number() % 3 {
@@ -151,9 +195,20 @@ fn commits_and_write_backs() {
             },
             _ => Phase::WritingBack {
                 entry: random.number() % count,
-                half: random.pick(&[Half::Data, Half::Tag]),
+                store: random.pick(&[0, 1, 2, 2]),
             },
         };
+        if let Phase::WritingBack { entry, store: 2 } = phase {
+            let any = any_number(random);
+            let across = across_sectors(random, &geometry, any);
+            let provided = any_sector(random, &layout);
+            let sector = random.pick(&[provided, any, across]);
+            let place = entry_place(&geometry, entry as usize);
+            put_numbers(&mut staging[place..], &[sector]);
+            reached.add((crosses(&geometry, sector), sector < layout.provided));
+        }
+        let volume = with_journal(random, &layout);
+        let mut loans = Loans::new(random, &volume, &staging);
         loans.put_state(&State {
             layout,
             phase,
@@ -164,4 +219,7 @@ fn commits_and_write_backs() {
         run(random, &mut loans);
         loans.flush();
     });
+    for across in [false, true] {
+        reached.assert_each(20, [(across, false), (across, true)]);
+    }
 }

@@ -2,12 +2,18 @@
 //! wrapper over it, and by the reference. Number, answer, state and all bytes of all buffers must agree after each call.
 //! The three have buffers of their own, which stay equal from call to call, so that nothing is copied between calls.
 
-use crate::by_reference::{numbers_in, put_state};
+use crate::by_reference::{holds_state, layout_in, numbers_in, put_state};
+use crate::by_reference::{PHASE, RECOVERING, SECOND};
 use crate::{by_reference, by_wrapper};
 use gaffreel::ffi;
 use gaffreel::volume::{ANSWER_LENGTH, LAYOUT_LENGTH, SECTOR_LENGTH, STATE_LENGTH};
 use random::{count_compared, Lent, Random};
 use reference::volume::{Layout, State};
+use volumes::kinds::stores_to_replay;
+
+/// The number of a phase, and in writing back and recovering which of its entry's stores comes next: 0 for its data, 1 for its
+/// tag, 2 for what of the tag lies in the next sector.
+pub type Place = (u64, u64);
 
 /// The number of a call that was carried out.
 pub const DONE: u32 = 0;
@@ -50,6 +56,30 @@ impl Buffers {
     /// The numbers in the answer's buffer.
     pub fn answer(&self) -> Vec<u64> {
         numbers_in(self.answer.bytes())
+    }
+
+    /// The place of the state; none where there is no state, or none of its store.
+    pub fn place(&self) -> Option<Place> {
+        let numbers = numbers_in(self.state.bytes());
+        if !holds_state(self.state.bytes()) {
+            return None;
+        }
+        match numbers[PHASE..=SECOND] {
+            [RECOVERING, store, _] => Some((RECOVERING, self.replayed(&numbers, store)?)),
+            [phase, _, second] => Some((phase, second)),
+            _ => None,
+        }
+    }
+
+    /// Which of its entry's stores a store of the replay is, if there is such a one.
+    fn replayed(&self, numbers: &[u64], store: u64) -> Option<u64> {
+        let geometry = layout_in(numbers).geometry()?;
+        let volume = self.volume.bytes();
+        let stores = match volume.len() < geometry.sectors * SECTOR_LENGTH {
+            true => vec![],
+            false => stores_to_replay(volume, &geometry),
+        };
+        stores.get(usize::try_from(store).ok()?).copied()
     }
 
     /// The sector that a step which answered this number names, if it names one.

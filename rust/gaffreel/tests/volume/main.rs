@@ -2,7 +2,9 @@
 //!
 //! What is covered where:
 //! - `histories`: calls in a row, the state kept between them; cuts, damaged bytes, ids up to the last, full batches.
-//! - `cuts`: a cut at every store of short histories and of their recoveries, with one, two and three sections.
+//! - `cuts`: a cut at every store of short histories and of their recoveries, with one, two and three sections, and between the two
+//!   stores of a tag that lies across two sectors.
+//! - `tag_sizes`: each tag size, with tags in one sector and across two where there are such, and what stands behind a tag.
 //! - `states`: single calls on states that are sound, and that break each clause of soundness.
 //! - `journals`: sections that are torn, misplaced, of equal ids, of ids up to 2^64 - 1, with entries not below the number
 //!   provided or tags that do not fit; recoveries, commits and write-backs from any place on.
@@ -16,10 +18,10 @@
 //! - `failing_stores`: the same by the safe wrapper, with stores that fail or are given up, against the ledger.
 //! - `any_input`: volumes, staging, states and arguments of any kind.
 //! - `keyed`: keys of every length, right, wrong and missing ones; most of the others run with a key too.
-//! - `examples`: document 01's examples.
+//! - `examples`: document 01's examples, and document 02's for order 4.
 //!
 //! `histories`, `states`, `journals`, `cuts`, `next_stores` and `failing_stores` count the kinds of cases that they reach, and
-//! fail if one is too seldom.
+//! fail if one is too seldom. `histories`, `states`, `journals`, `formats` and `any_input` also fail if a tag size never comes.
 
 mod advances;
 mod any_input;
@@ -40,3 +42,4 @@ mod orders;
 mod refusals;
 mod states;
 mod superblocks;
+mod tag_sizes;

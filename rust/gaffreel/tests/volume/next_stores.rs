@@ -4,21 +4,18 @@
 use crate::advances::nearly_sound;
 use crate::any_input::any_loans;
 use crate::buffers::{sound, wrong_length};
-use crate::by_reference::{numbers_in, PHASE, SECOND};
+use crate::by_reference::{numbers_in, PHASE};
 use crate::by_reference::{COMMITTING, FILLING, RECOVERING, WRITING_BACK};
-use crate::loans::{Buffers, Loans, DONE};
+use crate::loans::{Buffers, Loans, Place, DONE};
 use crate::mapped::Mapped;
 use gaffreel::ffi;
 use gaffreel::volume::{ANSWER_LENGTH, SECTOR_LENGTH, STATE_LENGTH};
 use random::{cases, count_compared, Lent, Random, Reached};
 use reference::volume::Layout;
-use volumes::any::{any_layout, small_layout};
+use volumes::any::{any_layout, any_sector, small_layout, with_tag_across_sectors};
 use volumes::{formatted, geometry};
 
 const LENGTH_OR_STATE: u32 = 1;
-
-/// The number of a phase, and in writing back and recovering whether data (0) or a tag (1) is stored next.
-type Place = (u64, u64);
 
 /// What was done, and where.
 type Done = (&'static str, Place);
@@ -28,12 +25,14 @@ const CUT_BEFORE: &str = "cut before the store";
 const CUT_AFTER: &str = "cut after the store";
 
 /// The places at which there is a store.
-const STORING: [Place; 5] = [
+const STORING: [Place; 7] = [
     (COMMITTING, 0),
     (WRITING_BACK, 0),
     (WRITING_BACK, 1),
+    (WRITING_BACK, 2),
     (RECOVERING, 0),
     (RECOVERING, 1),
+    (RECOVERING, 2),
 ];
 
 /// A volume that is worked by steps, and one mapped for reading only that is worked by next stores. State and staging are the
@@ -51,13 +50,15 @@ impl Pair {
         }
     }
 
+    /// The place of a sound state.
     fn place(&self) -> Place {
-        let state = numbers_in(self.stepped.lent().state.bytes());
-        match state.get(PHASE..=SECOND) {
-            Some(&[RECOVERING, store, _]) => (RECOVERING, store % 2),
-            Some(&[phase, _, second]) => (phase, second),
-            _ => (u64::MAX, 0),
-        }
+        self.stepped.lent().place().expect("the state is sound")
+    }
+
+    /// The number of the phase that the state's buffer names, whatever else is in it; none where it is too short.
+    fn phase(&self) -> Option<u64> {
+        let numbers = numbers_in(self.stepped.lent().state.bytes());
+        numbers.get(PHASE).copied()
     }
 
     /// The next store on the mapped volume: its number and the buffers that it leaves.
@@ -135,7 +136,7 @@ impl History<'_> {
     fn writes(&mut self) {
         for _ in 0..self.random.length(1..=4) {
             self.pair.stepped.fill(self.random, |lent| &mut lent.bytes);
-            let sector = self.random.number() % self.layout.provided;
+            let sector = any_sector(self.random, &self.layout);
             self.pair.stepped.write(sector);
         }
     }
@@ -203,6 +204,10 @@ impl History<'_> {
 
 fn history(random: &mut Random, reached: &mut Reached<Done>) {
     let layout = small_layout(random);
+    let layout = match random.number() % 2 {
+        0 => with_tag_across_sectors(random, layout),
+        _ => layout,
+    };
     let volume = formatted(&layout, random.length(0..=1));
     let staging = random.bytes(geometry(&layout).staging_length());
     let mut pair = Pair::new(Loans::new(random, &volume, &staging));
@@ -222,16 +227,20 @@ fn history(random: &mut Random, reached: &mut Reached<Done>) {
 fn histories_beside_steps() {
     let mut reached = Reached::new();
     cases(150, |random| history(random, &mut reached));
-    for (done, least) in [(STEP, 500), (CUT_BEFORE, 20), (CUT_AFTER, 20)] {
-        reached.assert_each(least, STORING.map(|place| (done, place)));
+    for (done, least, of_third) in [(STEP, 500, 50), (CUT_BEFORE, 20, 2), (CUT_AFTER, 20, 2)] {
+        for place in STORING {
+            // Few entries have a third store.
+            let least = if place.1 == 2 { of_third } else { least };
+            reached.assert_each(least, [(done, place)]);
+        }
     }
 }
 
 /// A few steps, and what they answer.
-fn hostile_steps(random: &mut Random, reached: &mut Reached<(u32, u64)>, loans: Loans) {
+fn hostile_steps(random: &mut Random, reached: &mut Reached<(u32, Option<u64>)>, loans: Loans) {
     let mut pair = Pair::new(loans);
     for _ in 0..6 {
-        let (phase, _) = pair.place();
+        let phase = pair.phase();
         let number = pair.step(random);
         reached.add((number, phase));
     }
@@ -251,6 +260,10 @@ const ANSWERED: [(u32, u64); 10] = [
     (6, RECOVERING),
 ];
 
+fn in_phase((number, phase): (u32, u64)) -> (u32, Option<u64>) {
+    (number, Some(phase))
+}
+
 /// Damaged journals, staging of any kind, states that are sound there or nearly.
 #[test]
 fn any_journal_beside_steps() {
@@ -262,14 +275,14 @@ fn any_journal_beside_steps() {
     let but_one = ANSWERED
         .into_iter()
         .filter(|kind| *kind != (LENGTH_OR_STATE, FILLING));
-    reached.assert_each(100, but_one);
+    reached.assert_each(100, but_one.map(in_phase));
 }
 
 /// Volumes, staging, states and answers of any kind and length. The content is a sector long: a step has none to refuse.
 #[test]
 fn any_input_beside_steps() {
     let mut reached = Reached::new();
-    cases(3_000, |random| {
+    cases(6_000, |random| {
         let layout = any_layout(random);
         let mut loans = any_loans(random, &layout);
         loans.lend(|lent| &mut lent.bytes, &Lent::new(random, SECTOR_LENGTH));
@@ -287,7 +300,7 @@ fn any_input_beside_steps() {
         }
         hostile_steps(random, &mut reached, loans);
     });
-    reached.assert_each(20, ANSWERED);
+    reached.assert_each(20, ANSWERED.map(in_phase));
 }
 
 /// Any length but a sector's is refused with 1, and nothing but the answer is changed; with an answer of a wrong length,

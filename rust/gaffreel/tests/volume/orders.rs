@@ -2,15 +2,17 @@
 //! with any of the later ones: the first answers. So each fault answers alone, and before each later one.
 
 use crate::buffers::wrong_length;
-use crate::by_reference::{layout_numbers, put_numbers, StateNumbers};
+use crate::by_reference::{layout_numbers, numbers_in, put_numbers, StateNumbers};
 use crate::by_reference::{COMMITTING, FILLING, RECOVERING, WRITING_BACK};
 use crate::by_reference::{COUNT, FIRST, ID, PHASE, SECOND, UNUSED};
 use crate::loans::{Loans, DONE};
 use gaffreel::volume::{ANSWER_LENGTH, LAYOUT_LENGTH, SECTOR_LENGTH, STATE_LENGTH};
 use random::{cases, Lent, Random};
 use reference::volume::{Geometry, Layout, TagRule};
+use volumes::any::with_tag_across_sectors;
 use volumes::keyed::{any_key, other_key, retag, wrong_key_length};
-use volumes::{empty_staging, formatted, geometry};
+use volumes::kinds::stores_to_replay;
+use volumes::{empty_staging, entry_place, formatted, geometry, stores_of, tag_place};
 use volumes::{put_id, put_ids, put_section, section, Entry};
 
 /// What a call is given.
@@ -41,17 +43,28 @@ type Fault = (u32, fn(&mut Random, &mut Input));
 /// The entry that has the faults of entries.
 const ENTRY: usize = 1;
 
-/// An open volume of two sections, each whole and in its place, with a batch of three in staging.
+/// An open volume of two sections, each whole and in its place, with a batch of three in staging. In half of the volumes the tag of
+/// the second entry lies across two sectors.
 fn good(random: &mut Random) -> Input {
     let layout = Layout {
         reserved: random.pick(&[0, 1, 64]),
         log2_run: random.pick(&[3, 4]),
-        tag_size: random.pick(&[8, 16, 32]),
+        // None so short that a tag may fit other data, or under another key, by chance.
+        tag_size: random.length(4..=32) as u64,
         sections: 2,
         provided: random.length(4..=12) as u64,
     };
+    let (layout, second) = match random.number() % 2 {
+        0 => (layout, 2),
+        _ => {
+            let mut layout = with_tag_across_sectors(random, layout);
+            // The last sector is in no batch.
+            layout.provided += 1;
+            (layout, 512 / layout.tag_size)
+        }
+    };
     let geometry = geometry(&layout);
-    let entries = [0, 2, 1].map(|sector| Entry::new(sector, random.number() as u8));
+    let entries = [0, second, 1].map(|sector| Entry::new(sector, random.number() as u8));
     let mut volume = formatted(&layout, 0);
     for number in 0..2 {
         let bytes = section(&geometry, number as u64 + 1, &entries);
@@ -146,12 +159,13 @@ const UNSOUND: Fault = (1, |random, input| {
     let (place, number) = random.pick(&[
         (0, 65),
         (1, 2),
-        (2, 9),
+        (2, 0),
+        (2, 33),
         (3, 0),
         (4, 65_537),
         (UNUSED, 1),
         (PHASE, 4),
-        (SECOND, 2),
+        (SECOND, 3),
         (COUNT, 1 << 32),
         (ID, 0),
     ]);
@@ -163,8 +177,14 @@ const SHORT_FOR_STATE: Fault = (1, |random, input| shorten(random, input));
 
 /// In a recovery only: beyond its last store.
 const STORE: Fault = (1, |random, input| {
-    input.state[PHASE..=COUNT].copy_from_slice(&[RECOVERING, 12, 0, 0]);
+    let stores = stores_to_replay(&input.volume, &input.geometry).len() as u64;
+    input.state[PHASE..=COUNT].copy_from_slice(&[RECOVERING, stores, 0, 0]);
     input.state[FIRST] += random.pick(&[0, 1, 1 << 32]);
+});
+
+/// In writing back only: the third store of an entry that has two. For calls that look at the staged entry.
+const THIRD_STORE: Fault = (1, |_, input| {
+    input.state[PHASE..=COUNT].copy_from_slice(&[WRITING_BACK, 0, 2, 3]);
 });
 
 /// Shorter than the layout, with room for the superblock.
@@ -191,7 +211,7 @@ const PARAMETER: Fault = (2, |random, input| {
     match random.number() % 5 {
         0 => layout.reserved = random.pick(&[65, 1 << 32, u64::MAX]),
         1 => layout.log2_run = random.pick(&[0, 2, 16, 64, 259]),
-        2 => layout.tag_size = random.pick(&[0, 7, 24, 33, 64]),
+        2 => layout.tag_size = random.pick(&[0, 33, 64, 256 + 20, (1 << 32) + 8]),
         3 => layout.sections = random.pick(&[0, 65, (1 << 32) + 1]),
         _ => layout.provided = random.pick(&[0, 65_537, (1 << 32) + 1]),
     }
@@ -241,10 +261,13 @@ fn not_provided(random: &mut Random, input: &Input) -> u64 {
     random.pick(&[provided, provided + 1, 1 << 32, u64::MAX - 1])
 }
 
-/// The entry's head in a section.
-fn entry(geometry: &Geometry, section: &mut [u8]) -> std::ops::Range<usize> {
-    assert_eq!(section.len(), geometry.staging_length());
-    ENTRY * geometry.entry_size..(ENTRY + 1) * geometry.entry_size
+/// Has the entry of a section name a sector that is not provided; it has as many stores as before.
+fn put_not_provided(random: &mut Random, geometry: &Geometry, section: &mut [u8]) {
+    let (run, provided) = (geometry.run as u64, geometry.provided as u64);
+    let sector = &mut section[entry_place(geometry, ENTRY)..][..8];
+    let next = provided.div_ceil(run);
+    let runs = random.pick(&[next, next + 1, 1 << 32, u64::MAX / run]);
+    put_numbers(sector, &[runs * run + numbers_in(sector)[0] % run]);
 }
 
 /// The first section of the journal, which is replayed first.
@@ -255,17 +278,13 @@ fn first_section(input: &mut Input) -> &mut [u8] {
 
 const JOURNAL_TAG: Fault = (7, |random, input| {
     let geometry = input.geometry;
-    let section = first_section(input);
-    let head = entry(&geometry, section);
-    section[head][16..][random.length(0..=7)] ^= 1;
+    let byte = random.length(0..=geometry.tag_size - 1);
+    first_section(input)[tag_place(&geometry, ENTRY)][byte] ^= 1;
 });
 
 const JOURNAL_SECTOR: Fault = (6, |random, input| {
-    let sector = not_provided(random, input);
     let geometry = input.geometry;
-    let section = first_section(input);
-    let head = entry(&geometry, section);
-    put_numbers(&mut section[head], &[sector]);
+    put_not_provided(random, &geometry, first_section(input));
 });
 
 /// The entry at hand names a sector that is not provided: in staging, or in the journal where the phase is recovering.
@@ -273,9 +292,7 @@ const ENTRY_AT_HAND: Fault = (6, |random, input| {
     if input.state[PHASE] == RECOVERING {
         return JOURNAL_SECTOR.1(random, input);
     }
-    let sector = not_provided(random, input);
-    let head = entry(&input.geometry, &mut input.staging);
-    put_numbers(&mut input.staging[head], &[sector]);
+    put_not_provided(random, &input.geometry, &mut input.staging);
 });
 
 const SECTOR: Fault = (6, |random, input| {
@@ -310,7 +327,8 @@ const LAST_ID_OF_STATE: Fault = (10, |_, input| {
     input.state[ID] = u64::MAX;
 });
 
-/// A phase that is sound with the count and the id.
+/// A phase that is sound with the count and the id for calls that do not look at the staged entries: any of them may have a third
+/// store.
 const NOT_FILLING: Fault = (9, |random, input| {
     let phase = match (input.state[COUNT], input.state[ID]) {
         (0, _) => RECOVERING,
@@ -318,11 +336,15 @@ const NOT_FILLING: Fault = (9, |random, input| {
         _ => random.pick(&[COMMITTING, WRITING_BACK]),
     };
     input.state[PHASE] = phase;
+    if phase == WRITING_BACK {
+        input.state[SECOND] = random.number() % 3;
+    }
 });
 
 const IN_RECOVERY: Fault = (9, |random, input| {
     input.state[PHASE..=COUNT].copy_from_slice(&[RECOVERING, 0, 0, 0]);
-    input.state[FIRST] = random.number() % 12;
+    let stores = stores_to_replay(&input.volume, &input.geometry).len() as u64;
+    input.state[FIRST] = random.number() % stores;
 });
 
 /// No tag fits: the runs have other bytes.
@@ -432,16 +454,19 @@ fn of_flush() {
 /// At the entry that has the faults, in staging or in the journal.
 fn at_the_entry(random: &mut Random) -> Input {
     let mut input = good(random);
-    let half = random.number() % 2;
+    let geometry = &input.geometry;
+    let second = numbers_in(&input.staging[entry_place(geometry, ENTRY)..][..8])[0];
+    let store = random.number() % stores_of(geometry, second);
     let place = match random.number() % 2 {
-        0 => [WRITING_BACK, ENTRY as u64, half, 3],
-        _ => [RECOVERING, 2 * ENTRY as u64 + half, 0, 0],
+        0 => [WRITING_BACK, ENTRY as u64, store, 3],
+        // Behind the first entry's two.
+        _ => [RECOVERING, 2 + store, 0, 0],
     };
     input.state[PHASE..=COUNT].copy_from_slice(&place);
     input
 }
 
-const OF_STEP: [Fault; 8] = [
+const OF_STEP: [Fault; 9] = [
     ANSWER,
     STATE,
     UNSOUND,
@@ -449,6 +474,7 @@ const OF_STEP: [Fault; 8] = [
     SHORT_FOR_STATE,
     STAGING,
     STORE,
+    THIRD_STORE,
     ENTRY_AT_HAND,
 ];
 
@@ -484,7 +510,8 @@ fn of_advance() {
 fn of_read() {
     cases(100, |random| {
         let lengths = [ANSWER, STATE, UNSOUND, PART_OF_A_SECTOR, SHORT_FOR_STATE];
-        let others = [STAGING, BYTES, STORE, IN_RECOVERY, SECTOR, TAGS];
+        let others = [STAGING, BYTES, STORE, THIRD_STORE];
+        let others = [&others[..], &[IN_RECOVERY, SECTOR, TAGS]].concat();
         let faults = [&lengths[..], &others].concat();
         let mut input = good(random);
         input.state[COUNT] = random.number() % 4;
@@ -581,8 +608,9 @@ fn of_write_with_a_key() {
 fn of_read_with_a_key() {
     cases(100, |random| {
         let lengths = [ANSWER, STATE, UNSOUND, PART_OF_A_SECTOR, SHORT_FOR_STATE];
-        let others = [STAGING, BYTES, STORE, KEY, IN_RECOVERY, SECTOR, TAGS];
-        let faults = [&lengths[..], &others, &[WRONG_KEY]].concat();
+        let others = [STAGING, BYTES, STORE, THIRD_STORE];
+        let behind = [KEY, IN_RECOVERY, SECTOR, TAGS, WRONG_KEY];
+        let faults = [&lengths[..], &others, &behind].concat();
         let mut input = good_with_key(random);
         input.state[COUNT] = random.number() % 4;
         every_two(random, &input, &faults, |loans, input| {

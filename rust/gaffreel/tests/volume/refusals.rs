@@ -61,11 +61,10 @@ fn of_format() {
     let refused = |volume: &[u8], layout: &Layout| format(&mut volume.to_vec(), layout).err();
     let answer = refused(&zero[1..], &LAYOUT);
     assert_eq!(answer, Some(Refusal::LengthOrState));
-    let out_of_range = Layout {
-        tag_size: 24,
-        ..LAYOUT
-    };
-    assert_eq!(refused(&zero, &out_of_range), Some(Refusal::OutOfRange));
+    for tag_size in [0, 33, 256 + 20] {
+        let out_of_range = Layout { tag_size, ..LAYOUT };
+        assert_eq!(refused(&zero, &out_of_range), Some(Refusal::OutOfRange));
+    }
     let needed = SECTORS as u64;
     let too_short = Refusal::VolumeTooShort { needed };
     assert_eq!(refused(&zero[512..], &LAYOUT), Some(too_short));
@@ -133,10 +132,11 @@ fn of_write_and_flush() {
     let filling = in_phase(Phase::Filling, 0);
     let full = in_phase(Phase::Filling, 80);
     let committing = in_phase(Phase::Committing { sector: 0 }, 1);
-    let store = 2;
-    let unsound = in_phase(Phase::WritingBack { entry: 0, store }, 1);
+    // Neither looks whether the staged entry has a third store; none has a fourth.
+    let at_store = |store| in_phase(Phase::WritingBack { entry: 0, store }, 1);
     for (state, sector, refusal) in [
-        (unsound, 0, Refusal::LengthOrState),
+        (at_store(3), 0, Refusal::LengthOrState),
+        (at_store(2), 0, Refusal::NotNow),
         (committing, 0, Refusal::NotNow),
         (filling, 10, Refusal::Sector),
         (full, 9, Refusal::BatchFull),
@@ -149,7 +149,8 @@ fn of_write_and_flush() {
         ..full
     };
     for (state, refusal) in [
-        (unsound, Refusal::LengthOrState),
+        (at_store(3), Refusal::LengthOrState),
+        (at_store(2), Refusal::NotNow),
         (committing, Refusal::NotNow),
         (last_id, Refusal::IdsUsedUp),
     ] {
@@ -191,8 +192,16 @@ fn of_step_and_advance() {
         let home = geometry().home(3).unwrap();
         assert_eq!(loans.1[home.data * 512..][..512], [1; 512]);
     }
-    let answer = step(&mut replayed(4), &mut volume.clone(), &mut staging.clone());
-    assert_eq!(answer, Err(Refusal::LengthOrState));
+    // There are four stores of the replay, and each entry has two.
+    let third = in_phase(Phase::WritingBack { entry: 0, store: 2 }, 2);
+    for state in [replayed(4), third] {
+        let answer = step(
+            &mut state.clone(),
+            &mut volume.clone(),
+            &mut staging.clone(),
+        );
+        assert_eq!(answer, Err(Refusal::LengthOrState));
+    }
 }
 
 /// As a step is, and where the content is not a sector long. Nothing is changed.
@@ -202,9 +211,11 @@ fn of_next_store() {
     let volume = with_section(1, 2, &entries);
     let staging = section(&geometry(), 0, &entries);
     let staged = in_phase(Phase::WritingBack { entry: 1, store: 0 }, 2);
+    let third = in_phase(Phase::WritingBack { entry: 0, store: 2 }, 2);
     let replayed = |store| in_phase(Phase::Recovering { store }, 0);
     let (section, entry) = (1, 1);
     for (state, length, refusal) in [
+        (third, 512, Refusal::LengthOrState),
         (staged, 512, Refusal::StagedSector { entry }),
         (replayed(2), 512, Refusal::JournalSector { section, entry }),
         (replayed(4), 512, Refusal::LengthOrState),
@@ -245,8 +256,10 @@ fn of_read() {
     let filling = in_phase(Phase::Filling, 0);
     let recovering = in_phase(Phase::Recovering { store: 1 }, 0);
     let unsound = in_phase(Phase::Recovering { store: 2 }, 0);
+    let third = in_phase(Phase::WritingBack { entry: 0, store: 2 }, 1);
     for (state, sector, refusal) in [
         (unsound, 0, Refusal::LengthOrState),
+        (third, 0, Refusal::LengthOrState),
         (recovering, 0, Refusal::NotNow),
         (filling, 10, Refusal::Sector),
         (filling, 4, Refusal::Tag { sector: 4 }),
@@ -268,8 +281,12 @@ fn of_verify() {
     let committing = in_phase(Phase::Committing { sector: 0 }, 2);
     let recovering = in_phase(Phase::Recovering { store: 1 }, 0);
     let unsound = in_phase(Phase::Recovering { store: 2 }, 0);
+    // Staging is not lent, so that no staged entry is looked at.
+    let at_store = |store| in_phase(Phase::WritingBack { entry: 0, store }, 1);
     for (state, first, count, answer) in [
         (unsound, 0, 1, Err(Refusal::LengthOrState)),
+        (at_store(3), 0, 1, Err(Refusal::LengthOrState)),
+        (at_store(2), 0, 1, Err(Refusal::NotNow)),
         (recovering, 0, 1, Err(Refusal::NotNow)),
         (committing, 0, 1, Err(Refusal::NotNow)),
         (filling, 0, 11, Err(Refusal::Sector)),

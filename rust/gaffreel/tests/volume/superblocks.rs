@@ -63,7 +63,9 @@ fn numbers(random: &mut Random, length: usize) -> Vec<u64> {
     if length == 1 {
         return (0..256).collect();
     }
-    let ends = [0, 1, 5, 6, 8, 16, 24, 32, 33, 64, 65, 128, 256];
+    let ends = [
+        0, 1, 5, 6, 8, 9, 20, 24, 30, 32, 33, 64, 65, 128, 256, 276, 0x2000,
+    ];
     let high = [65_535, 65_536, 65_537, 1 << 24, 1 << 31, 1 << 32, u64::MAX];
     let any = (0..20).map(|_| random.number() >> random.length(0..=63));
     ends.into_iter().chain(high).chain(any).collect()

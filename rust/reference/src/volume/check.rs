@@ -25,13 +25,14 @@ pub fn check(volume: &[u8], reserved: u64, rule: TagRule) -> Result<Checked, Ref
     let (replay, _) = test_journal(&geometry, sectors, &tags)?;
 
     let mut recovered = Cow::Borrowed(volume);
-    if !replay.is_empty() {
+    let stores = replay.total();
+    if stores > 0 {
         let copy = loan::volume_mut(recovered.to_mut())?;
         store_from(&geometry, copy, &replay, 0)?;
     }
     Ok(Checked {
         layout,
-        stores: 2 * replay.len() as u64,
+        stores,
         bad: bad_sectors(&geometry, &recovered, &tags),
     })
 }

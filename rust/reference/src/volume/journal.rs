@@ -3,12 +3,20 @@
 use super::section::{self, Entry};
 use super::tag::Tags;
 use super::{Geometry, Refusal, Sector};
+use std::ops::Range;
 
 /// A used entry of a whole section.
 #[derive(Clone, Copy, Debug, PartialEq, Eq)]
 pub(super) struct Place {
     pub section: usize,
     pub entry: usize,
+    /// How many stores bring it home.
+    pub stores: u64,
+}
+
+/// What a recovery replays: the used entries of whole sections by rising id, then section, then place.
+pub(super) struct Replay {
+    pub places: Vec<Place>,
 }
 
 /// The journal of a volume that is as long as its layout.
@@ -52,17 +60,28 @@ impl<'a> Journal<'a> {
         whole.then_some(id)
     }
 
-    /// The used entries of whole sections by rising id, then section, then place.
-    pub fn replay(&self) -> Vec<Place> {
+    /// What a recovery replays.
+    pub fn replay(&self) -> Replay {
         let mut whole = self.whole_sections();
         whole.sort();
-        whole
+        let places = whole
             .into_iter()
             .flat_map(|(_, section)| {
-                (0..self.geometry.entries).map(move |entry| Place { section, entry })
+                (0..self.geometry.entries).filter_map(move |entry| self.used(section, entry))
             })
-            .filter(|place| self.logical_sector(*place) != section::UNUSED)
-            .collect()
+            .collect();
+        Replay { places }
+    }
+
+    /// An entry of a whole section, if it is used.
+    fn used(&self, section: usize, entry: usize) -> Option<Place> {
+        let sector = section::logical_sector(self.geometry, self.section(section), entry);
+        let stores = self.geometry.stores(sector);
+        (sector != section::UNUSED).then_some(Place {
+            section,
+            entry,
+            stores,
+        })
     }
 
     /// The logical sector of an entry.
@@ -93,6 +112,23 @@ impl<'a> Journal<'a> {
     fn section(&self, number: usize) -> &'a [Sector] {
         let length = self.geometry.section_sectors;
         &self.sectors[number * length..(number + 1) * length]
+    }
+}
+
+impl Replay {
+    /// How many stores it makes.
+    pub fn total(&self) -> u64 {
+        self.places.iter().map(|place| place.stores).sum()
+    }
+
+    /// The entries that have stores from this one on, each with those that it has of them, by their numbers among its own.
+    pub fn stores_from(&self, store: u64) -> impl Iterator<Item = (Place, Range<u64>)> + '_ {
+        let mut before = store;
+        self.places.iter().filter_map(move |place| {
+            let first = before.min(place.stores);
+            before -= first;
+            (first < place.stores).then_some((*place, first..place.stores))
+        })
     }
 }
 

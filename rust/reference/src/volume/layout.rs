@@ -1,4 +1,4 @@
-//! A volume's parameters and what follows from them (document 01, "Volume layout" and "A journal section").
+//! A volume's parameters and what follows from them (document 01, "Volume layout" and "A journal section"; document 02, order 4).
 
 use super::{superblock::SUPERBLOCK_SECTORS, SECTOR_LENGTH};
 
@@ -64,15 +64,21 @@ const ENTRIES_LENGTH: usize = 496;
 /// The bytes of an entry before its tag: the logical sector and the last 8 data bytes.
 const ENTRY_HEAD_LENGTH: usize = 16;
 
+/// The tag's part of an entry is a multiple of this many bytes. Only the entry is rounded: tags in the runs stand side by side.
+const TAG_PART_UNIT: usize = 8;
+
 /// A tag area is a multiple of this many sectors.
 const TAG_AREA_UNIT: usize = 8;
+
+/// The most stores that write an entry back: its data sector, and the two sectors in which its tag may lie.
+pub(super) const MOST_STORES: u64 = 3;
 
 impl Layout {
     /// Whether each parameter is in its range.
     pub fn in_range(&self) -> bool {
         self.reserved <= 64
             && (3..=15).contains(&self.log2_run)
-            && matches!(self.tag_size, 8 | 16 | 32)
+            && (1..=32).contains(&self.tag_size)
             && (1..=64).contains(&self.sections)
             && (1..=65_536).contains(&self.provided)
     }
@@ -88,7 +94,7 @@ impl Layout {
         let sections = self.sections as usize;
         let provided = self.provided as usize;
 
-        let entry_size = ENTRY_HEAD_LENGTH + tag_size;
+        let entry_size = ENTRY_HEAD_LENGTH + tag_size.next_multiple_of(TAG_PART_UNIT);
         let entries_per_sector = ENTRIES_LENGTH / entry_size;
         let entries = METADATA_SECTORS * entries_per_sector;
         let section_sectors = METADATA_SECTORS + entries;
@@ -127,6 +133,18 @@ impl Geometry {
             data: start + self.tag_area + place,
             tag: start * SECTOR_LENGTH + place * self.tag_size,
         })
+    }
+
+    /// How many stores write an entry for a logical sector back: two, and three where its tag lies across two sectors. Any
+    /// number has them, whether it is provided or not.
+    pub fn stores(&self, sector: u64) -> u64 {
+        let place = (sector % self.run as u64) as usize;
+        let start = place * self.tag_size % SECTOR_LENGTH;
+        if start + self.tag_size > SECTOR_LENGTH {
+            MOST_STORES
+        } else {
+            2
+        }
     }
 
     /// The section that a commit id goes to. Ids start at 1.

@@ -1,4 +1,4 @@
-//! A tagged volume with a journal, from document 01, with the tags of document 02's order 1 too.
+//! A tagged volume with a journal, from document 01 with document 02's orders 1 (tags with a key) and 4 (tags of 1 to 32 bytes).
 //!
 //! A volume, a staging section and a sector are lent as bytes of any length and content; states and parameters may
 //! be anything too. Each call tests what it was given in document 01's order and answers with the first rule that is
@@ -38,7 +38,7 @@ pub use query::{query, Queried};
 pub use read::read;
 pub use recover::recover;
 pub use refusal::Refusal;
-pub use state::{Half, Phase, State};
+pub use state::{Phase, State};
 pub use step::{step, Said, Stepped};
 pub use superblock::SUPERBLOCK_SECTORS;
 pub use tag::{digest_of_sector, TagRule};

@@ -1,6 +1,6 @@
 //! Opening a volume. Nothing is stored on it.
 
-use super::journal::{Journal, Place};
+use super::journal::{Journal, Replay};
 use super::tag::Tags;
 use super::{loan, section, superblock};
 use super::{Geometry, Layout, Phase, Refusal, Sector, State, TagRule, SUPERBLOCK_SECTORS};
@@ -28,7 +28,8 @@ pub fn open(
     let (replay, id) = test_journal(&geometry, volume, &tags)?;
 
     section::clear(&geometry, staging);
-    let phase = if replay.is_empty() {
+    let stores_to_come = replay.total();
+    let phase = if stores_to_come == 0 {
         Phase::Filling
     } else {
         Phase::Recovering { store: 0 }
@@ -40,7 +41,7 @@ pub fn open(
             count: 0,
             id,
         },
-        stores_to_come: 2 * replay.len() as u64,
+        stores_to_come,
     })
 }
 
@@ -69,12 +70,12 @@ pub(super) fn layout_on(volume: &[Sector], reserved: u64) -> Result<(Layout, Geo
     Ok((layout, geometry))
 }
 
-/// The entries to replay and the next id: open's refusals 10, 11, 6 and 7.
+/// What is to be replayed and the next id: open's refusals 10, 11, 6 and 7.
 pub(super) fn test_journal(
     geometry: &Geometry,
     volume: &[Sector],
     tags: &Tags,
-) -> Result<(Vec<Place>, u64), Refusal> {
+) -> Result<(Replay, u64), Refusal> {
     let journal = Journal::of(geometry, volume);
     let next_id = journal
         .greatest_id()
@@ -88,7 +89,7 @@ pub(super) fn test_journal(
         }
     }
     let replay = journal.replay();
-    for place in &replay {
+    for place in &replay.places {
         journal.test(*place, tags)?;
     }
     Ok((replay, next_id))

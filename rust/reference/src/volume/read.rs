@@ -15,6 +15,7 @@ pub fn read(
     let sectors = loan::volume(volume)?;
     let geometry = state.sound_on(sectors)?.geometry;
     let staging = loan::staging(&geometry, staging)?;
+    state.store_exists(&geometry, staging)?;
     let out = loan::sector_mut(out)?;
     let tags = rule.ready()?;
     if matches!(state.phase, Phase::Recovering { .. }) {

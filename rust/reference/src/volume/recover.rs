@@ -1,6 +1,6 @@
 //! A whole recovery at once.
 
-use super::journal::{Journal, Place};
+use super::journal::{Journal, Replay};
 use super::step::store_replayed;
 use super::{loan, Geometry, Phase, Refusal, Sector, State};
 
@@ -9,31 +9,33 @@ use super::{loan, Geometry, Phase, Refusal, Sector, State};
 pub fn recover(state: &mut State, volume: &mut [u8], staging: &[u8]) -> Result<u64, Refusal> {
     let volume = loan::volume_mut(volume)?;
     let sound = state.sound_on(volume)?;
-    loan::staging(&sound.geometry, staging)?;
+    let staging = loan::staging(&sound.geometry, staging)?;
+    state.store_exists(&sound.geometry, staging)?;
     let Phase::Recovering { store } = state.phase else {
         return Ok(0);
     };
-    let stores = 2 * sound.replay.len() as u64;
     let journal = Journal::of(&sound.geometry, volume);
-    for place in &sound.replay[store as usize / 2..] {
-        if journal.logical_sector(*place) >= state.layout.provided {
+    for (place, _) in sound.replay.stores_from(store) {
+        if journal.logical_sector(place) >= state.layout.provided {
             return Err(place.sector_refused());
         }
     }
     store_from(&sound.geometry, volume, &sound.replay, store)?;
     state.phase = Phase::Filling;
-    Ok(stores - store)
+    Ok(sound.replay.total() - store)
 }
 
 /// Makes the stores of a recovery from one on.
 pub(super) fn store_from(
     geometry: &Geometry,
     volume: &mut [Sector],
-    replay: &[Place],
+    replay: &Replay,
     first: u64,
 ) -> Result<(), Refusal> {
-    for store in first..2 * replay.len() as u64 {
-        store_replayed(geometry, volume, replay, store)?;
+    for (place, numbers) in replay.stores_from(first) {
+        for number in numbers {
+            store_replayed(geometry, volume, place, number)?;
+        }
     }
     Ok(())
 }

@@ -1,4 +1,4 @@
-//! The bytes of a section, in the journal or in staging (document 01, "A journal section").
+//! The bytes of a section, in the journal or in staging (document 01, "A journal section"; document 02, order 4).
 
 use super::layout::METADATA_SECTORS;
 use super::{Geometry, Sector, SECTOR_LENGTH};
@@ -52,23 +52,25 @@ pub(super) fn logical_sector(geometry: &Geometry, section: &[Sector], entry: usi
 /// An entry and its data.
 pub(super) fn entry(geometry: &Geometry, section: &[Sector], entry: usize) -> Entry {
     let (metadata, bytes) = place(geometry, entry);
-    let (head, tag) = section[metadata][bytes].split_at(16);
+    let (head, tag_part) = section[metadata][bytes].split_at(16);
     let mut data = section[METADATA_SECTORS + entry];
     data[ID_PLACE..].copy_from_slice(&head[8..]);
     Entry {
         sector: logical_sector(geometry, section, entry),
         data,
-        tag: tag.to_vec(),
+        tag: tag_part[..geometry.tag_size].to_vec(),
     }
 }
 
-/// Writes an entry and its data. All other bytes stay, the commit ids included.
+/// Writes an entry, with zeros behind its tag, and its data. All other bytes stay, the commit ids included.
 pub(super) fn put_entry(geometry: &Geometry, section: &mut [Sector], entry: usize, new: &Entry) {
     let (metadata, bytes) = place(geometry, entry);
-    let (head, tag) = section[metadata][bytes].split_at_mut(16);
+    let (head, tag_part) = section[metadata][bytes].split_at_mut(16);
     head[..8].copy_from_slice(&new.sector.to_le_bytes());
     head[8..].copy_from_slice(&new.data[ID_PLACE..]);
+    let (tag, padding) = tag_part.split_at_mut(geometry.tag_size);
     tag.copy_from_slice(&new.tag);
+    padding.fill(0);
     section[METADATA_SECTORS + entry][..ID_PLACE].copy_from_slice(&new.data[..ID_PLACE]);
 }
 

@@ -1,6 +1,8 @@
-//! The state of an open volume, and when it is sound (document 01, "Working a volume").
+//! The state of an open volume, and when it is sound (document 01, "Working a volume"; document 02, order 4).
 
-use super::journal::{Journal, Place};
+use super::journal::{Journal, Replay};
+use super::layout::MOST_STORES;
+use super::section;
 use super::{Geometry, Layout, Refusal, Sector};
 
 /// What an open volume is about.
@@ -17,23 +19,15 @@ pub enum Phase {
     WritingBack {
         /// The entry that comes next.
         entry: u64,
-        /// What of it comes next.
-        half: Half,
+        /// Its store that comes next: 0 is its data sector, 1 the sector in which its tag begins, and 2, where the tag goes on in
+        /// the next sector, that one.
+        store: u64,
     },
     /// The journal's entries are stored in the runs.
     Recovering {
-        /// The store that comes next; entry i has stores 2i and 2i + 1.
+        /// The store that comes next, counted from the first entry's first on; an entry has two or three.
         store: u64,
     },
-}
-
-/// The two stores of an entry.
-#[derive(Clone, Copy, Debug, PartialEq, Eq)]
-pub enum Half {
-    /// Its data sector.
-    Data,
-    /// The sector that has its tag.
-    Tag,
 }
 
 /// The state of an open volume. Any values may stand in it.
@@ -52,12 +46,12 @@ pub struct State {
 /// What is known of a sound state and its volume.
 pub(super) struct Sound {
     pub geometry: Geometry,
-    /// The entries to replay; none unless recovering.
-    pub replay: Vec<Place>,
+    /// What is replayed; nothing unless recovering.
+    pub replay: Replay,
 }
 
 impl State {
-    /// Tests what can be told without a volume, as write and flush do.
+    /// Tests what can be told without a volume, as write and flush do. An entry's third store counts as one that exists.
     pub(super) fn sound(&self) -> Result<Geometry, Refusal> {
         let geometry = self.layout.geometry().ok_or(Refusal::LengthOrState)?;
         let place_exists = match self.phase {
@@ -65,7 +59,7 @@ impl State {
             Phase::Committing { sector } => {
                 sector < geometry.section_sectors as u64 && self.count > 0 && self.id < u64::MAX
             }
-            Phase::WritingBack { entry, .. } => entry < self.count,
+            Phase::WritingBack { entry, store } => entry < self.count && store < MOST_STORES,
             Phase::Recovering { .. } => self.count == 0,
         };
         if place_exists && self.count <= geometry.entries as u64 && self.id != 0 {
@@ -75,19 +69,35 @@ impl State {
         }
     }
 
-    /// Tests all, as step and read do: the layout fits the volume, and a recovery's place exists there.
+    /// Tests what a volume tells too, as step, read and verify do: the layout fits it, and a recovery's place exists there.
     pub(super) fn sound_on(&self, volume: &[Sector]) -> Result<Sound, Refusal> {
         let geometry = self.sound()?;
         if volume.len() < geometry.sectors {
             return Err(Refusal::LengthOrState);
         }
-        let mut replay = vec![];
+        let mut replay = Replay { places: vec![] };
         if let Phase::Recovering { store } = self.phase {
             replay = Journal::of(&geometry, volume).replay();
-            if store >= 2 * replay.len() as u64 {
+            if store >= replay.total() {
                 return Err(Refusal::LengthOrState);
             }
         }
         Ok(Sound { geometry, replay })
+    }
+
+    /// Tests what staging tells, as step and read do of a state that is sound without it: the staged entry that is being
+    /// written back has the store that comes next.
+    pub(super) fn store_exists(
+        &self,
+        geometry: &Geometry,
+        staging: &[Sector],
+    ) -> Result<(), Refusal> {
+        if let Phase::WritingBack { entry, store } = self.phase {
+            let sector = section::logical_sector(geometry, staging, entry as usize);
+            if store >= geometry.stores(sector) {
+                return Err(Refusal::LengthOrState);
+            }
+        }
+        Ok(())
     }
 }

@@ -1,8 +1,8 @@
 //! Making one sector store.
 
-use super::journal::{Journal, Place};
+use super::journal::{Journal, Place, Replay};
 use super::section::{self, Entry};
-use super::{loan, Geometry, Half, Home, Phase, Refusal, Sector, State, SECTOR_LENGTH};
+use super::{loan, Geometry, Home, Phase, Refusal, Sector, State, SECTOR_LENGTH};
 
 /// What a step that is taken gives.
 #[derive(Clone, Copy, Debug, PartialEq, Eq)]
@@ -30,14 +30,15 @@ pub fn step(state: &mut State, volume: &mut [u8], staging: &mut [u8]) -> Result<
     let sound = state.sound_on(volume)?;
     let geometry = &sound.geometry;
     let staging = loan::staging_mut(geometry, staging)?;
+    state.store_exists(geometry, staging)?;
     match state.phase {
         Phase::Filling => Ok(Stepped {
             stored: None,
             said: Said::Filling,
         }),
         Phase::Committing { sector } => Ok(commit(state, geometry, volume, staging, sector)),
-        Phase::WritingBack { entry, half } => {
-            write_back(state, geometry, volume, staging, entry, half)
+        Phase::WritingBack { entry, store } => {
+            write_back(state, geometry, volume, staging, entry, store)
         }
         Phase::Recovering { store } => replay(state, geometry, volume, &sound.replay, store),
     }
@@ -60,10 +61,7 @@ fn commit(
     let last = place + 1 == geometry.section_sectors;
     if last {
         state.id += 1;
-        state.phase = Phase::WritingBack {
-            entry: 0,
-            half: Half::Data,
-        };
+        state.phase = Phase::WritingBack { entry: 0, store: 0 };
     } else {
         state.phase = Phase::Committing { sector: sector + 1 };
     }
@@ -77,50 +75,47 @@ fn commit(
     }
 }
 
-/// Stores one half of a staged entry. After the last, staging is an empty section.
+/// Makes one of a staged entry's stores. After the last entry's last, staging is an empty section.
 fn write_back(
     state: &mut State,
     geometry: &Geometry,
     volume: &mut [Sector],
     staging: &mut [Sector],
     entry: u64,
-    half: Half,
+    store: u64,
 ) -> Result<Stepped, Refusal> {
     let staged = section::entry(geometry, staging, entry as usize);
     let home = geometry
         .home(staged.sector)
         .ok_or(Refusal::StagedSector { entry })?;
-    let stored = store_half(volume, home, &staged, half);
+    let stored = store_home(volume, home, &staged, store);
 
-    state.phase = match half {
-        Half::Data => Phase::WritingBack {
-            entry,
-            half: Half::Tag,
-        },
-        Half::Tag if entry + 1 < state.count => Phase::WritingBack {
-            entry: entry + 1,
-            half: Half::Data,
-        },
-        Half::Tag => {
-            state.count = 0;
-            section::clear(geometry, staging);
-            Phase::Filling
-        }
+    state.phase = if store + 1 < geometry.stores(staged.sector) {
+        let store = store + 1;
+        Phase::WritingBack { entry, store }
+    } else if entry + 1 < state.count {
+        let entry = entry + 1;
+        Phase::WritingBack { entry, store: 0 }
+    } else {
+        state.count = 0;
+        section::clear(geometry, staging);
+        Phase::Filling
     };
     Ok(stepped(state, stored))
 }
 
-/// Stores one half of a journal entry.
+/// Makes a store of a recovery, one that exists.
 fn replay(
     state: &mut State,
     geometry: &Geometry,
     volume: &mut [Sector],
-    replay: &[Place],
+    replay: &Replay,
     store: u64,
 ) -> Result<Stepped, Refusal> {
-    let stored = store_replayed(geometry, volume, replay, store)?;
+    let (place, numbers) = replay.stores_from(store).next().expect("it exists");
+    let stored = store_replayed(geometry, volume, place, numbers.start)?;
     let next = store + 1;
-    state.phase = if next < 2 * replay.len() as u64 {
+    state.phase = if next < replay.total() {
         Phase::Recovering { store: next }
     } else {
         Phase::Filling
@@ -128,35 +123,38 @@ fn replay(
     Ok(stepped(state, stored))
 }
 
-/// Makes a store of a recovery, one that exists.
+/// Makes one of the stores of a journal entry.
 pub(super) fn store_replayed(
     geometry: &Geometry,
     volume: &mut [Sector],
-    replay: &[Place],
-    store: u64,
+    place: Place,
+    number: u64,
 ) -> Result<usize, Refusal> {
-    let place = replay[store as usize / 2];
-    let half = match store % 2 {
-        0 => Half::Data,
-        _ => Half::Tag,
-    };
     let entry = Journal::of(geometry, volume).entry(place);
     let home = geometry.home(entry.sector).ok_or(place.sector_refused())?;
-    Ok(store_half(volume, home, &entry, half))
+    Ok(store_home(volume, home, &entry, number))
 }
 
-/// Stores an entry's data sector, or the sector of its tag with only that tag replaced.
-fn store_half(volume: &mut [Sector], home: Home, entry: &Entry, half: Half) -> usize {
-    match half {
-        Half::Data => {
+/// Makes one of an entry's stores: its data sector; the sector in which its tag begins, with only the tag's bytes up to the
+/// sector's end replaced; the next, with only the tag's other bytes replaced.
+fn store_home(volume: &mut [Sector], home: Home, entry: &Entry, number: u64) -> usize {
+    let sector = home.tag / SECTOR_LENGTH;
+    let place = home.tag % SECTOR_LENGTH;
+    let (lower, upper) = entry
+        .tag
+        .split_at(entry.tag.len().min(SECTOR_LENGTH - place));
+    match number {
+        0 => {
             volume[home.data] = entry.data;
             home.data
         }
-        Half::Tag => {
-            let sector = home.tag / SECTOR_LENGTH;
-            let place = home.tag % SECTOR_LENGTH;
-            volume[sector][place..place + entry.tag.len()].copy_from_slice(&entry.tag);
+        1 => {
+            volume[sector][place..place + lower.len()].copy_from_slice(lower);
             sector
+        }
+        _ => {
+            volume[sector + 1][..upper.len()].copy_from_slice(upper);
+            sector + 1
         }
     }
 }

@@ -2,8 +2,9 @@
 
 use super::{loan, Phase, Refusal, State, TagRule};
 
-/// Tests the tags of `count` sectors from `first` on against the volume's data; the batch in staging is not looked at. Only for a
-/// volume that is filling: in other phases data and tag of a sector may be stored only in part.
+/// Tests the tags of `count` sectors from `first` on against the volume's data; staging is not lent, so the batch is not looked
+/// at, and a third store of the entry being written back counts as one that exists. Only for a volume that is filling: in other
+/// phases data and tag of a sector may be stored only in part.
 pub fn verify(
     state: &State,
     volume: &[u8],

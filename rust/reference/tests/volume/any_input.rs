@@ -2,11 +2,13 @@
 //! stays sound, and the calls that work on a whole volume agree with the single steps and reads.
 
 use crate::calls;
-use random::{cases, Random};
+use random::{cases, Random, Reached};
 use reference::volume::{advance, check, query, Advanced, Layout, Phase, Refusal};
 use reference::volume::{Said, State, Stepped, TagRule};
 use volumes::any::{any_layout, any_number, any_staging, any_state, any_volume};
 use volumes::any::{small_layout, with_journal};
+use volumes::kinds::stores_to_replay;
+use volumes::tag_sizes::TagSizes;
 use volumes::{empty_staging, geometry};
 
 /// What the calls are given.
@@ -52,6 +54,7 @@ fn assert_sound(state: &State, volume: &[u8], staging: &[u8]) {
 
 #[test]
 fn any_call() {
+    let mut sizes = TagSizes::new();
     cases(4_000, |random| {
         let Input {
             layout,
@@ -79,7 +82,9 @@ fn any_call() {
                 assert_sound(&state, &volume, &staging);
             }
         }
+        sizes.add(&layout);
     });
+    sizes.assert_all(100);
 }
 
 /// Steps until one says filling or is refused.
@@ -98,17 +103,23 @@ fn steps(state: &mut State, volume: &mut [u8], staging: &mut [u8]) -> (u64, Opti
     }
 }
 
-/// A whole recovery makes the stores that steps make. If a step would be refused, it is refused before the first.
+/// A whole recovery makes the stores that steps make, from any store on. If a step would be refused, it is refused before the first.
 #[test]
 fn recovery_at_once() {
-    cases(300, |random| {
+    let mut reached = Reached::new();
+    cases(500, |random| {
         let layout = small_layout(random);
         let volume = with_journal(random, &layout);
         let mut staging = empty_staging(&geometry(&layout));
+        let stores = stores_to_replay(&volume, &geometry(&layout));
+        let any = random.length(0..=stores.len());
+        let third = stores.iter().position(|number| *number == 2);
+        let store = random.pick(&[0, any, third.unwrap_or(any), stores.len()]);
+        reached.add(stores.get(store).copied());
         let state = State {
             layout,
             phase: Phase::Recovering {
-                store: random.pick(&[0, 0, 1, 2, 5, 400]),
+                store: store as u64,
             },
             count: 0,
             id: 1,
@@ -124,6 +135,8 @@ fn recovery_at_once() {
             Err(refused) => assert_eq!(Some(refused), refusal),
         }
     });
+    // From each of an entry's stores on, and behind the last.
+    reached.assert_each(10, [Some(0), Some(1), Some(2), None]);
 }
 
 /// So many steps at once are as many single ones; those after one that stores nothing are all the same.
@@ -219,7 +232,7 @@ fn checked_by_calls(volume: &[u8], reserved: u64) -> Result<(u64, Vec<u64>), Ref
     // Staging's length follows from T, which may be anything.
     let mut answer = Err(Refusal::LengthOrState);
     let mut staging = vec![];
-    for sectors in [88, 128, 168] {
+    for sectors in [88, 104, 128, 168] {
         staging = vec![0; sectors * 512];
         answer = calls::open(&volume, reserved, &mut staging);
         if answer != Err(Refusal::LengthOrState) {

@@ -2,8 +2,8 @@
 
 use crate::calls;
 use crate::setting::{filling, filling_with, in_phase, recovering, with_sections, LAYOUT, STAGING};
-use reference::volume::{Half, Phase};
-use volumes::{empty_staging, formatted, geometry, put_id, Entry};
+use reference::volume::{Geometry, Layout, Phase, State};
+use volumes::{empty_staging, formatted, geometry, padding_place, put_id, Entry};
 
 /// A torn section is not replayed, whatever its entries and ids are; a whole one without a used entry neither.
 #[test]
@@ -49,10 +49,7 @@ fn read_of_the_batch() {
     for phase in [
         Phase::Filling,
         Phase::Committing { sector: 87 },
-        Phase::WritingBack {
-            entry: 0,
-            half: Half::Tag,
-        },
+        Phase::WritingBack { entry: 0, store: 1 },
     ] {
         for count in 1..=3 {
             let mut out = [9; 512];
@@ -66,16 +63,33 @@ fn read_of_the_batch() {
     assert_eq!((answer, out), (Ok(()), [0; 512]));
 }
 
-/// Write changes its entry and the entry's data, whatever stands there, and nothing else.
+/// Write changes its entry, zeros behind the tag included, and the entry's data, whatever stands there, and nothing else.
 #[test]
 fn write_changes_one_entry() {
-    let geometry = geometry(&LAYOUT);
-    for count in 0..80 {
-        let mut entries = [Entry::new(5, 1).with_wrong_tag(); 80];
-        let mut staging = volumes::section(&geometry, 9, &entries);
-        let mut state = filling_with(count);
-        calls::write(&mut state, &mut staging, 7, &[3; 512]).unwrap();
-        entries[count as usize] = Entry::new(7, 3);
-        assert!(staging == volumes::section(&geometry, 9, &entries));
+    for tag_size in [1, 8, 20, 30, 32] {
+        let layout = Layout { tag_size, ..LAYOUT };
+        let geometry = geometry(&layout);
+        for count in 0..geometry.entries {
+            let mut entries = vec![Entry::new(5, 1).with_wrong_tag(); geometry.entries];
+            let mut staging = with_padding(&geometry, &entries);
+            let mut state = State {
+                layout,
+                ..filling_with(count as u64)
+            };
+            calls::write(&mut state, &mut staging, 7, &[3; 512]).unwrap();
+            entries[count] = Entry::new(7, 3);
+            let mut expected = with_padding(&geometry, &entries);
+            expected[padding_place(&geometry, count)].fill(0);
+            assert!(staging == expected);
+        }
     }
+}
+
+/// A section whose bytes behind the tags are not zero.
+fn with_padding(geometry: &Geometry, entries: &[Entry]) -> Vec<u8> {
+    let mut section = volumes::section(geometry, 9, entries);
+    for entry in 0..geometry.entries {
+        section[padding_place(geometry, entry)].fill(0xff);
+    }
+    section
 }

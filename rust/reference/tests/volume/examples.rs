@@ -1,4 +1,4 @@
-//! Document 01's examples.
+//! Document 01's examples, and document 02's for order 4.
 
 use crate::calls;
 use crate::world::World;
@@ -22,6 +22,7 @@ fn sections() {
         (8, 24, 20, 160, 168),
         (16, 32, 15, 120, 128),
         (32, 48, 10, 80, 88),
+        (20, 40, 12, 96, 104),
     ] {
         let geometry = geometry(&Layout { tag_size, ..BENCH });
         assert_eq!(geometry.entry_size, entry_size);
@@ -29,6 +30,72 @@ fn sections() {
         assert_eq!(geometry.entries, entries);
         assert_eq!(geometry.section_sectors, section_sectors);
         assert_eq!(geometry.staging_length(), section_sectors * 512);
+    }
+}
+
+/// Only the entry is rounded up: sizes 1 to 8, 9 to 16, 17 to 24 and 25 to 32 have the same sections.
+#[test]
+fn entry_sizes() {
+    for (tag_sizes, entry_size, section_sectors) in [
+        (1..=8, 24, 168),
+        (9..=16, 32, 128),
+        (17..=24, 40, 104),
+        (25..=32, 48, 88),
+    ] {
+        for tag_size in tag_sizes {
+            let geometry = geometry(&Layout { tag_size, ..BENCH });
+            assert_eq!(geometry.entry_size, entry_size);
+            assert_eq!(geometry.section_sectors, section_sectors);
+        }
+    }
+}
+
+/// T 30, N 32, S 1, P 24: the tag of sector 17 is at the bytes 510 to 539 of the tag area. T 20, N 8, S 1, P 8 has no such tag.
+#[test]
+fn tags_across_sectors() {
+    let crossing = Layout {
+        log2_run: 5,
+        tag_size: 30,
+        provided: 24,
+        ..BENCH
+    };
+    let geometry = volumes::geometry(&crossing);
+    assert_eq!((geometry.sectors, geometry.tag_area), (128, 8));
+    let area = geometry.base * 512;
+    assert_eq!(geometry.home(17).map(|home| home.tag), Some(area + 510));
+    for sector in (0..64).chain([u64::MAX - 32, u64::MAX - 14, u64::MAX - 1, u64::MAX]) {
+        let stores = if sector % 32 == 17 { 3 } else { 2 };
+        assert_eq!(geometry.stores(sector), stores, "{sector}");
+    }
+    let ward = Layout {
+        log2_run: 3,
+        tag_size: 20,
+        provided: 8,
+        ..BENCH
+    };
+    let geometry = volumes::geometry(&ward);
+    assert_eq!(geometry.sectors, 128);
+    assert!((0..100).all(|sector| geometry.stores(sector) == 2));
+}
+
+/// Of any size and run length, the numbers that have three stores are those whose tags have bytes in two sectors.
+#[test]
+fn stores_of_each_tag_size() {
+    for tag_size in 1..=32 {
+        for log2_run in 3..=15 {
+            let layout = Layout {
+                log2_run,
+                tag_size,
+                ..BENCH
+            };
+            let geometry = geometry(&layout);
+            for sector in (0..2 * geometry.run as u64).chain(u64::MAX - 100..=u64::MAX) {
+                let expected = volumes::stores_of(&geometry, sector);
+                assert_eq!(geometry.stores(sector), expected);
+            }
+            // The last tag of a run never goes on behind the sector that it begins in.
+            assert_eq!(geometry.stores(u64::MAX), 2);
+        }
     }
 }
 
@@ -239,11 +306,11 @@ fn ranges() {
         log2_run,
         ..BENCH
     });
-    let tags: Vec<u64> = (0..=70).chain([65_536 + 8, wide + 16, u64::MAX]).collect();
-    each(&tags, &[8, 16, 32], &|tag_size| Layout {
-        tag_size,
-        ..BENCH
-    });
+    let tags: Vec<u64> = (0..=70)
+        .chain([256 + 20, 65_536 + 8, wide + 16, u64::MAX])
+        .collect();
+    let taken: Vec<u64> = (1..=32).collect();
+    each(&tags, &taken, &|tag_size| Layout { tag_size, ..BENCH });
     let sections = [0, 1, 64, 65, wide + 1, u64::MAX];
     each(&sections, &[1, 64], &|sections| Layout {
         sections,

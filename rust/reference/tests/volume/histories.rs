@@ -1,17 +1,18 @@
 //! Random histories of calls and cuts against the ledger.
 
-use crate::world::World;
-use random::{cases, Random};
+use crate::world::{InATag, World};
+use random::{cases, Random, Reached};
 use reference::volume::ledger::Ledger;
 use reference::volume::{Layout, Phase};
-use volumes::any::small_layout;
+use volumes::any::{any_sector, small_layout, with_tag_across_sectors};
 use volumes::keyed::{any_key, wrong_key_length};
+use volumes::tag_sizes::TagSizes;
 
 /// Few sectors of a volume, so that the same one is often written twice.
 fn sector(random: &mut Random, layout: &Layout) -> u64 {
     match random.number() % 3 {
-        0 => random.number() % layout.provided,
-        _ => random.number() % layout.provided.min(4),
+        0 => random.number() % layout.provided.min(4),
+        _ => any_sector(random, layout),
     }
 }
 
@@ -58,6 +59,10 @@ fn steps(world: &mut World, random: &mut Random) {
         if world.phase() == Some(Phase::Filling) && !random.number().is_multiple_of(4) {
             return;
         }
+        let in_a_tag = matches!(world.phase(), Some(Phase::WritingBack { store: 2, .. }));
+        if in_a_tag && random.number().is_multiple_of(2) {
+            return;
+        }
     }
 }
 
@@ -70,9 +75,17 @@ fn reads(world: &mut World, random: &mut Random) {
     world.verify();
 }
 
-/// A cut, and cuts in the recoveries after it.
-fn cuts(world: &mut World, random: &mut Random) {
+/// A cut, counted where it leaves a tag stored in part.
+fn cut(world: &mut World, reached: &mut Reached<InATag>) {
+    if let Some(kind) = world.in_a_tag() {
+        reached.add(kind);
+    }
     world.cut();
+}
+
+/// A cut, and cuts in the recoveries after it.
+fn cuts(world: &mut World, random: &mut Random, reached: &mut Reached<InATag>) {
+    cut(world, reached);
     world.check_whole();
     while random.number().is_multiple_of(3) {
         world.open_with_wrong_staging(random);
@@ -84,7 +97,7 @@ fn cuts(world: &mut World, random: &mut Random) {
         for _ in 0..random.length(0..=stores) {
             world.step();
         }
-        world.cut();
+        cut(world, reached);
     }
     world.open(random);
 }
@@ -107,8 +120,11 @@ fn random_histories_under_a_key() {
 }
 
 fn histories(key: Key) {
-    cases(200, |random| {
+    let mut sizes = TagSizes::new();
+    let mut reached = Reached::new();
+    cases(400, |random| {
         let layout = small_layout(random);
+        sizes.add(&layout);
         let behind = random.length(0..=2);
         let mut world = World::under(key(random), layout, behind);
         world.open(random);
@@ -118,22 +134,34 @@ fn histories(key: Key) {
                 5..=7 => {
                     let _ = world.flush();
                 }
-                8..=12 => steps(&mut world, random),
+                8..=12 => {
+                    steps(&mut world, random);
+                    if world.in_a_tag().is_some() {
+                        cuts(&mut world, random, &mut reached);
+                    }
+                }
                 13 => reads(&mut world, random),
                 14 => refused_writes(&mut world, random),
-                _ => cuts(&mut world, random),
+                _ => cuts(&mut world, random, &mut reached),
             }
         }
-        cuts(&mut world, random);
+        cuts(&mut world, random, &mut reached);
         assert_eq!(Ledger::of(&layout, &world.transcript), Some(world.ledger));
     });
+    sizes.assert_all(20);
+    reached.assert_each(5, [InATag::WritingBack, InATag::Recovering]);
 }
 
 /// Batches of a few entries, one after the other, with a cut somewhere in most: sections are used again and again, and
 /// torn attempts lie beside whole ones.
 fn short_batches(key: Key) {
+    let mut reached = Reached::new();
     cases(60, |random| {
         let layout = small_layout(random);
+        let layout = match random.number() % 2 {
+            0 => with_tag_across_sectors(random, layout),
+            _ => layout,
+        };
         let mut world = World::under(key(random), layout, 0);
         world.open(random);
         for _ in 0..12 {
@@ -145,15 +173,21 @@ fn short_batches(key: Key) {
                 world.write(sector, &random.bytes(512)).unwrap();
             }
             world.flush().unwrap();
-            let stores = world.geometry.section_sectors + 6;
-            for _ in 0..random.length(0..=stores) {
+            // Often up to the write-back, which has at most nine stores.
+            let commit = world.geometry.section_sectors;
+            let least = random.pick(&[0, commit]);
+            for _ in 0..random.length(least..=commit + 9) {
                 world.step();
+                if world.in_a_tag().is_some() && random.number().is_multiple_of(2) {
+                    break;
+                }
             }
             if !random.number().is_multiple_of(4) {
-                cuts(&mut world, random);
+                cuts(&mut world, random, &mut reached);
             }
         }
     });
+    reached.assert_each(5, [InATag::WritingBack, InATag::Recovering]);
 }
 
 #[test]

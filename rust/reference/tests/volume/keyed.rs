@@ -59,7 +59,7 @@ fn check_length(rule: TagRule, volume: &[u8], expected: Result<(), Refusal>) {
 #[test]
 fn order_of_format() {
     let out_of_range = Layout {
-        tag_size: 9,
+        tag_size: 33,
         ..LAYOUT
     };
     for (length, layout, expected) in [

@@ -4,7 +4,7 @@
 use crate::calls;
 use crate::setting::{committing, filling, filling_with, in_phase, recovering, writing_back};
 use crate::setting::{with_sections, Sections, LAYOUT, SECTORS, STAGING};
-use reference::volume::{Half, Layout, Phase, Refusal, State, VOLUME_LIMIT};
+use reference::volume::{Layout, Phase, Refusal, State, VOLUME_LIMIT};
 use volumes::{formatted, geometry, put_id, Entry, UNUSED};
 
 const LENGTH_OR_STATE: Refusal = Refusal::LengthOrState;
@@ -48,7 +48,7 @@ fn numbers_and_values() {
 #[test]
 fn format_order() {
     let out_of_range = Layout {
-        tag_size: 9,
+        tag_size: 33,
         ..LAYOUT
     };
     let needed = SECTORS as u64;
@@ -140,7 +140,7 @@ fn superblock_not_valid() {
         (9, 2),
         (9, 16),
         (10, 0),
-        (10, 24),
+        (10, 33),
         (11, 1),
         (12, 0),
         (12, 65),
@@ -258,15 +258,15 @@ fn flush_order() {
     }
 }
 
-/// Of staged entries and entries in the journal a step refuses only the one at hand, at either half.
+/// Of staged entries and entries in the journal a step refuses only the one at hand, at either store.
 #[test]
 fn step_refuses_the_entry_at_hand() {
     let entries = [Entry::new(3, 1), Entry::new(10, 2), Entry::new(UNUSED, 3)];
     let mut volume = with_sections(&[(1, 2, &entries)]);
     let mut staging = volumes::section(&geometry(&LAYOUT), 0, &entries);
-    for half in [Half::Data, Half::Tag] {
+    for store in [0, 1] {
         for (entry, refused) in [(0, false), (1, true), (2, true)] {
-            let mut state = in_phase(Phase::WritingBack { entry, half }, 3);
+            let mut state = in_phase(Phase::WritingBack { entry, store }, 3);
             let expected = refused.then_some(Refusal::StagedSector { entry });
             let answer = calls::step(&mut state, &mut volume, &mut staging);
             assert_eq!(answer.err(), expected);

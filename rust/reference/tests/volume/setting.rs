@@ -1,6 +1,6 @@
 //! One small volume, states on it and journals for it.
 
-use reference::volume::{Half, Layout, Phase, State};
+use reference::volume::{Layout, Phase, State};
 use volumes::{formatted, geometry, put_section, Entry};
 
 pub const LAYOUT: Layout = Layout {
@@ -9,6 +9,15 @@ pub const LAYOUT: Layout = Layout {
     tag_size: 32,
     sections: 2,
     provided: 10,
+};
+
+/// The tag of sector 17, and of each number that leaves 17 when it is divided by 32, lies across two sectors; no other does.
+pub const ACROSS_SECTORS: Layout = Layout {
+    reserved: 2,
+    log2_run: 5,
+    tag_size: 30,
+    sections: 2,
+    provided: 24,
 };
 
 /// The whole layout's sectors.
@@ -43,8 +52,7 @@ pub fn committing(sector: u64) -> State {
 }
 
 pub fn writing_back(entry: u64, count: u64) -> State {
-    let half = Half::Data;
-    in_phase(Phase::WritingBack { entry, half }, count)
+    in_phase(Phase::WritingBack { entry, store: 0 }, count)
 }
 
 pub fn recovering(store: u64) -> State {
@@ -56,8 +64,13 @@ pub type Sections<'a> = &'a [(usize, u64, &'a [Entry])];
 
 /// A volume whose journal has these sections.
 pub fn with_sections(sections: Sections) -> Vec<u8> {
-    let geometry = geometry(&LAYOUT);
-    let mut volume = formatted(&LAYOUT, 0);
+    with_sections_of(&LAYOUT, sections)
+}
+
+/// The same with another layout.
+pub fn with_sections_of(layout: &Layout, sections: Sections) -> Vec<u8> {
+    let geometry = geometry(layout);
+    let mut volume = formatted(layout, 0);
     for (number, id, entries) in sections {
         let section = volumes::section(&geometry, *id, entries);
         put_section(&mut volume, &geometry, *number, &section);

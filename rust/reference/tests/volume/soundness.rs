@@ -3,7 +3,7 @@
 use crate::calls;
 use crate::setting::{committing, filling, filling_with, in_phase, writing_back};
 use crate::setting::{LAYOUT, SECTORS, STAGING};
-use reference::volume::{verify, Half, Layout, Phase, Refusal, State, TagRule, VOLUME_LIMIT};
+use reference::volume::{verify, Layout, Phase, Refusal, State, TagRule, VOLUME_LIMIT};
 use volumes::{empty_staging, formatted, geometry, Entry};
 
 const LENGTH_OR_STATE: Refusal = Refusal::LengthOrState;
@@ -32,7 +32,11 @@ fn unsound() -> Vec<State> {
             ..LAYOUT
         }),
         with_layout(Layout {
-            tag_size: 31,
+            tag_size: 0,
+            ..LAYOUT
+        }),
+        with_layout(Layout {
+            tag_size: 33,
             ..LAYOUT
         }),
         with_layout(Layout {
@@ -65,15 +69,21 @@ fn unsound() -> Vec<State> {
         writing_back(u64::MAX, u64::MAX),
         in_phase(Phase::Recovering { store: 0 }, 1),
     ];
-    let tag_half = states.iter().copied().filter_map(|state| {
-        let Phase::WritingBack { entry, .. } = state.phase else {
-            return None;
-        };
-        let half = Half::Tag;
-        Some(in_phase(Phase::WritingBack { entry, half }, state.count))
-    });
-    let tag_half: Vec<State> = tag_half.collect();
-    states.extend(tag_half);
+    let other_stores: Vec<State> = states
+        .iter()
+        .filter_map(|state| match state.phase {
+            Phase::WritingBack { entry, .. } => Some((entry, state.count)),
+            _ => None,
+        })
+        .flat_map(|(entry, count)| {
+            [1, 2].map(|store| in_phase(Phase::WritingBack { entry, store }, count))
+        })
+        .collect();
+    states.extend(other_stores);
+    // No entry has a fourth store.
+    for store in [3, 4, 1 << 32, u64::MAX] {
+        states.push(in_phase(Phase::WritingBack { entry: 0, store }, 1));
+    }
     states
 }
 

@@ -1,11 +1,12 @@
 //! The tags of many sectors tested at once: as reads of the sectors one by one, and the order of refusals.
 
-use crate::setting::{committing, filling, filling_with, recovering, with_sections, writing_back};
-use crate::setting::{LAYOUT, SECTORS};
+use crate::setting::{committing, filling, filling_with, in_phase, recovering, writing_back};
+use crate::setting::{with_sections, LAYOUT, SECTORS};
 use random::{cases, Random, Reached};
-use reference::volume::{read, verify, Half, Layout, Phase, Refusal, State, TagRule};
+use reference::volume::{read, verify, Layout, Phase, Refusal, State, TagRule};
 use volumes::any::{any_layout, any_range, any_state, any_volume, small_layout};
 use volumes::keyed::{any_key, other_key, retag, wrong_key_length};
+use volumes::tag_sizes::TagSizes;
 use volumes::{empty_staging, formatted, formatted_by, geometry, Entry};
 
 const LENGTH_OR_STATE: Refusal = Refusal::LengthOrState;
@@ -52,6 +53,7 @@ fn by_reads(
 #[test]
 fn as_reads_one_by_one() {
     let mut reached = Reached::new();
+    let mut sizes = TagSizes::new();
     cases(1_500, |random| {
         let layout = small_layout(random);
         let key = any_key(random);
@@ -70,10 +72,14 @@ fn as_reads_one_by_one() {
         }
         let other = other_key(random, &key);
         let first = random.number() % layout.provided;
-        let answer = verify(&state, &volume, first, 1, TagRule::Hmac(&other));
-        assert_eq!(answer, Err(Refusal::Tag { sector: first }));
+        // A short tag may fit by chance.
+        let wrong = TagRule::Hmac(&other);
+        let answer = verify(&state, &volume, first, 1, wrong);
+        assert_eq!(answer, by_reads(&state, &volume, first, 1, wrong));
+        sizes.add(&layout);
     });
     reached.assert_each(500, [0, 6, 7]);
+    sizes.assert_all(100);
 }
 
 /// 1 before 2, 2 before 9, 9 before 6, 6 before 7: no tag of the volume fits.
@@ -82,12 +88,7 @@ fn order_of_refusals() {
     let mut volume = with_sections(&[(0, 1, &[Entry::new(3, 1)])]);
     volume[geometry(&LAYOUT).base * 512..].fill(0xee);
     let unsound = State { id: 0, ..filling() };
-    let half = Half::Tag;
-    let writing = Phase::WritingBack { entry: 0, half };
-    let half_written = State {
-        phase: writing,
-        ..writing_back(0, 1)
-    };
+    let at_store = |store| in_phase(Phase::WritingBack { entry: 0, store }, 1);
     for (state, length, expected) in [
         (unsound, SECTORS, Some(LENGTH_OR_STATE)),
         (recovering(2), SECTORS, Some(LENGTH_OR_STATE)),
@@ -95,7 +96,10 @@ fn order_of_refusals() {
         (recovering(1), SECTORS, Some(Refusal::NotNow)),
         (committing(0), SECTORS, Some(Refusal::NotNow)),
         (writing_back(0, 1), SECTORS, Some(Refusal::NotNow)),
-        (half_written, SECTORS, Some(Refusal::NotNow)),
+        (at_store(1), SECTORS, Some(Refusal::NotNow)),
+        // Without staging it cannot be told that there is no third store.
+        (at_store(2), SECTORS, Some(Refusal::NotNow)),
+        (at_store(3), SECTORS, Some(LENGTH_OR_STATE)),
         (filling(), SECTORS, None),
         (filling_with(80), SECTORS, None),
     ] {

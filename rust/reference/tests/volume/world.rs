@@ -6,6 +6,7 @@ use random::Random;
 use reference::volume::ledger::{Event, Ledger, Record};
 use reference::volume::{check, verify, Flushed, Geometry, Layout, Phase, Refusal};
 use reference::volume::{Said, State, Stepped, TagRule};
+use volumes::kinds::stores_to_replay;
 
 #[derive(Clone)]
 pub struct World {
@@ -22,6 +23,13 @@ pub struct World {
     pub ledger: Ledger,
     /// How many steps a recovery still takes.
     stores_to_come: u64,
+}
+
+/// Where a tag is stored in part.
+#[derive(Clone, Copy, Debug, PartialEq, Eq, PartialOrd, Ord)]
+pub enum InATag {
+    WritingBack,
+    Recovering,
 }
 
 /// The rule of a key, or of none.
@@ -54,6 +62,18 @@ impl World {
 
     pub fn phase(&self) -> Option<Phase> {
         self.live.as_ref().map(|(state, _)| state.phase)
+    }
+
+    /// Where a tag is stored in part, if one is: its other part comes next.
+    pub fn in_a_tag(&self) -> Option<InATag> {
+        match self.phase()? {
+            Phase::WritingBack { store: 2, .. } => Some(InATag::WritingBack),
+            Phase::Recovering { store } => {
+                let stores = stores_to_replay(&self.volume, &self.geometry);
+                (stores[store as usize] == 2).then_some(InATag::Recovering)
+            }
+            _ => None,
+        }
     }
 
     fn record(&mut self, event: Event, refused: bool) {

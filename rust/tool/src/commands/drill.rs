@@ -8,7 +8,7 @@ use super::{counted, reserved, tags, Command, KEY_FILE, RESERVED};
 use crate::arguments::{Arguments, Options};
 use crate::failure::{Failure, Outcome};
 use crate::files;
-use crate::layout::sizes;
+use crate::layout::{sizes, Sizes};
 use crate::progress::Progress;
 use crate::volume::{write_batch, Tags, Volume};
 use contents::Contents;
@@ -162,6 +162,13 @@ impl Settings {
     }
 }
 
+/// How many stores a history makes: for each batch those of its commit, and those that write its entries back.
+fn stores(history: &[Batch], sizes: &Sizes) -> u64 {
+    let entries = history.iter().flatten();
+    let written_back: u64 = entries.map(|(sector, _)| sizes.stores(*sector)).sum();
+    (history.len() * sizes.section_sectors) as u64 + written_back
+}
+
 impl Drill<'_> {
     fn new<'a>(
         volume: Volume,
@@ -170,18 +177,15 @@ impl Drill<'_> {
         history: &[Batch],
     ) -> Result<Drill<'a>, Refusal> {
         let contents = Contents::of(&volume)?;
-        let section_sectors = sizes(volume.layout()).section_sectors as u64;
-        let stores = history
-            .iter()
-            .map(|batch| section_sectors + 2 * batch.len() as u64);
-        let progress = Progress::new("drilling", stores.sum::<u64>() + 1);
+        let sizes = sizes(volume.layout());
+        let progress = Progress::new("drilling", stores(history, &sizes) + 1);
         let most = settings.recovery_cuts.unwrap_or(u64::MAX);
         Ok(Drill {
             cuts: Cuts::new(&volume, tags, most),
             volume,
             contents,
             stores: 0,
-            section_sectors,
+            section_sectors: sizes.section_sectors as u64,
             progress,
         })
     }

@@ -25,7 +25,7 @@ Usage: gaffreel format IMAGE [OPTION]...
 Makes a volume whose sectors are all zero. A file that is not there is made, as long as the
 volume needs. A file that is there keeps its length; the place of its superblock must be zero.
 
-  --tag-size T      bytes of a tag: 8, 16 or 32 (default 32)
+  --tag-size T      bytes of a tag: 1 to 32 (default 32)
   --run N           data sectors in a run: a power of two from 8 to 32768 (default 16)
   --sections S      sections of the journal: 1 to 64 (default 1)
   --sectors P       sectors that the volume provides: 1 to 65536 (default 16)
@@ -75,11 +75,6 @@ fn run(mut arguments: Arguments, out: &mut dyn Write) -> Result<Outcome, Failure
 
 /// The parameters asked for; those of document 01's example where they are not given.
 fn layout(arguments: &Arguments) -> Result<Layout, Failure> {
-    let tag_size = arguments.number(TAG_SIZE, 8..=32)?.unwrap_or(32);
-    if !matches!(tag_size, 8 | 16 | 32) {
-        let message = format!("{TAG_SIZE} is 8, 16 or 32, not {tag_size}");
-        return Err(Failure::usage(message));
-    }
     let run = arguments.number(RUN, 8..=32_768)?.unwrap_or(16);
     if !run.is_power_of_two() {
         let message = format!("{RUN} is a power of two, not {run}");
@@ -88,7 +83,7 @@ fn layout(arguments: &Arguments) -> Result<Layout, Failure> {
     Ok(Layout {
         reserved: reserved(arguments)?,
         log2_run: run.ilog2().into(),
-        tag_size,
+        tag_size: arguments.number(TAG_SIZE, 1..=32)?.unwrap_or(32),
         sections: arguments.number(SECTIONS, 1..=64)?.unwrap_or(1),
         provided: arguments.number(SECTORS, 1..=65_536)?.unwrap_or(16),
     })

@@ -5,12 +5,16 @@ use crate::layout::tests::wrapped;
 use crate::layout::{sizes, Sizes};
 use crate::volume::Tags;
 use random::{Random, Reached};
-use reference::volume::{Geometry, Opened, Refusal, TagRule};
+use reference::volume::{Geometry, Layout, Opened, Refusal, TagRule};
 use volumes::any::{small_layout, with_journal};
 use volumes::keyed::{any_key, retag};
+use volumes::kinds::{kinds, Kind};
+use volumes::stores_of;
+use volumes::tag_sizes::TagSizes;
 
 /// A volume with a journal of any kind, half of them with a key, and what the reference's open says of it.
 struct Case {
+    layout: Layout,
     tags: Tags,
     volume: Vec<u8>,
     staging: Vec<u8>,
@@ -35,6 +39,7 @@ fn case(random: &mut Random) -> Case {
     retag(&mut volume, &layout, rule);
     let opened = reference::volume::open(&volume, layout.reserved, &mut staging, rule);
     Case {
+        layout,
         tags,
         volume,
         staging,
@@ -59,7 +64,7 @@ fn expected(sections: &[Section], geometry: &Geometry, tags: &Tags) -> Result<(u
     for section in replay_order(sections) {
         for entry in &section.entries {
             test(section, entry, geometry, tags)?;
-            stores += 2;
+            stores += stores_of(geometry, entry.sector);
         }
     }
     Ok((id, stores))
@@ -85,8 +90,14 @@ fn test(section: &Section, entry: &Entry, geometry: &Geometry, tags: &Tags) -> R
 #[test]
 fn next_id_stores_and_refusals_are_those_of_open() {
     let mut reached = Reached::new();
-    random::cases(400, |random| {
+    let mut of_journals = Reached::new();
+    let mut tag_sizes = TagSizes::new();
+    random::cases(600, |random| {
         let case = case(random);
+        tag_sizes.add(&case.layout);
+        for kind in kinds(&case.volume, &case.geometry) {
+            of_journals.add(kind);
+        }
         let sections = sections(&case.volume, &case.sizes);
         assert_eq!(sections.len(), case.geometry.sections);
         let said = case
@@ -96,6 +107,8 @@ fn next_id_stores_and_refusals_are_those_of_open() {
         reached.add(said.is_err());
     });
     reached.assert_each(50, [false, true]);
+    of_journals.assert_each(50, [Kind::InOneSector, Kind::AcrossSectors, Kind::Padding]);
+    tag_sizes.assert_all(50);
 }
 
 /// The entries in replay order, brought home one after the other, leave what the reference's recovery leaves.
@@ -121,7 +134,7 @@ fn entries_in_replay_order_are_what_a_recovery_stores() {
 
 /// Five sections: never used, whole, and three that an id tears.
 fn torn_at_three_places() -> (Vec<u8>, Sizes) {
-    let layout = reference::volume::Layout {
+    let layout = Layout {
         reserved: 1,
         log2_run: 3,
         tag_size: 32,

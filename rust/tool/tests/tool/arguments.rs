@@ -75,12 +75,12 @@ const WRONG: [(&str, &str); 38] = [
     ("dump a --entries --entries", "--entries is given twice"),
     ("dump a --entries=1", "--entries takes no value"),
     (
-        "format a --tag-size 24",
-        "--tag-size is 8, 16 or 32, not 24",
+        "format a --tag-size 0",
+        "--tag-size is a number from 1 to 32, not \"0\"",
     ),
     (
         "format a --tag-size 33",
-        "--tag-size is a number from 8 to 32, not \"33\"",
+        "--tag-size is a number from 1 to 32, not \"33\"",
     ),
     ("format a --run 12", "--run is a power of two, not 12"),
     (

@@ -5,6 +5,7 @@ use random::Reached;
 use reference::volume::{check, Checked, Layout, Refusal, TagRule};
 use std::fs::File;
 use volumes::any::{any_volume, small_layout, with_journal};
+use volumes::tag_sizes::TagSizes;
 use volumes::{put_id, Entry};
 
 /// The lines of document 01, "Bench program", and the exit status.
@@ -51,8 +52,10 @@ fn agrees(folder: &Folder, volume: &[u8], reserved: u64) -> i32 {
 fn as_the_reference_says_of_any_volume() {
     let folder = Folder::new();
     let mut reached = Reached::new();
-    random::cases(300, |random| {
+    let mut sizes = TagSizes::new();
+    random::cases(500, |random| {
         let layout = small_layout(random);
+        sizes.add(&layout);
         let mut volume = match random.number() % 3 {
             0 => any_volume(random, &layout),
             _ => with_journal(random, &layout),
@@ -65,6 +68,7 @@ fn as_the_reference_says_of_any_volume() {
         reached.add(agrees(&folder, &volume, layout.reserved));
     });
     reached.assert_each(20, 0..=2);
+    sizes.assert_all(20);
 }
 
 #[test]

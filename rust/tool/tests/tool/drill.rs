@@ -1,6 +1,6 @@
 //! `gaffreel drill`.
 
-use crate::setting::{damage, with_sections, Folder, OTHER, SAMPLE};
+use crate::setting::{damage, with_sections, Folder, ACROSS_SECTORS, OTHER, SAMPLE, WARD};
 use reference::volume::Layout;
 use volumes::{put_id, Entry};
 
@@ -49,7 +49,7 @@ fn the_seed_decides() {
 /// Each tag size, with sections to replay from the start, sectors bad at the start and bytes that must stay.
 #[test]
 fn volumes_with_a_past() {
-    for tag_size in [8, 16, 32] {
+    for tag_size in [1, 8, 16, 20, 32] {
         let layout = Layout { tag_size, ..OTHER };
         let (old, new) = ([Entry::new(3, 1), Entry::new(4, 1)], [Entry::new(3, 2)]);
         let mut volume = with_sections(&layout, &[(0, 1, &old), (1, 2, &new)]);
@@ -61,6 +61,18 @@ fn volumes_with_a_past() {
         let text = survives(&volume, &words);
         assert!(number(&text, "recoveries cut") > 500, "{text}");
     }
+}
+
+/// Tags that lie across two sectors: each cut between the two stores of one is survived, in a batch and in its recovery.
+#[test]
+fn tags_across_two_sectors() {
+    let entries = [16, 17, 18].map(|sector| Entry::new(sector, 1));
+    let volume = with_sections(&ACROSS_SECTORS, &[(0, 1, &entries)]);
+    let text = survives(&volume, &["--batches=6", "--writes=12"]);
+    let (stores, cuts) = (number(&text, "stores"), number(&text, "cuts"));
+    assert!(stores > 6 * 88 && cuts == stores + 1, "{text}");
+    let fresh = volumes::formatted(&WARD, 0);
+    survives(&fresh, &["--batches=2", "--writes=6"]);
 }
 
 #[test]

@@ -1,7 +1,7 @@
 //! `gaffreel dump`.
 
-use crate::setting::{with_sections, Ended, Folder, OTHER, SAMPLE};
-use volumes::{put_id, Entry};
+use crate::setting::{with_sections, Ended, Folder, ACROSS_SECTORS, OTHER, SAMPLE, WARD};
+use volumes::{padding_place, put_id, Entry};
 
 const SAMPLE_LAYOUT: &str = "\
 reserved sectors (r)     0
@@ -68,6 +68,51 @@ fn sections_and_entries() {
     let without = folder.run(&["dump", "a", "--reserved=2"]);
     assert!(!without.text().contains("entry 0"));
     assert!(folder.get("a") == volume);
+}
+
+/// What stands behind a tag in an entry is no part of the tag.
+#[test]
+fn tags_of_20_bytes() {
+    let mut volume = with_sections(&WARD, &[(0, 1, &[Entry::new(5, 1), Entry::new(7, 2)])]);
+    let geometry = WARD.geometry().unwrap();
+    let padding = padding_place(&geometry, 1);
+    assert_eq!(padding.len(), 4);
+    let section = &mut volume[geometry.journal() * 512..];
+    section[padding].fill(9);
+    let folder = Folder::with("a", &volume);
+    let ended = folder.run(&["dump", "a", "--entries"]);
+    let expected = "\
+reserved sectors (r)     0
+tag size in bytes (T)    20
+run length (N)           8
+tag area (A)             8
+journal sections (S)     1
+entries of a section (E) 96
+section length (M)       104
+provided sectors (P)     8
+base (B)                 112
+sectors needed           128
+length of the image      128
+
+section 0: commit id 1, whole, 2 used entries
+  entry 0: sector 5, the tag fits
+  entry 1: sector 7, the tag fits
+
+next commit id: 2
+sections to replay, in order: 0
+open: taken, 4 stores to come
+";
+    assert_eq!(ended, Ended::good(expected));
+}
+
+/// Two stores of one entry, three of another.
+#[test]
+fn a_tag_across_two_sectors() {
+    let entries = [Entry::new(16, 1), Entry::new(17, 2)];
+    let folder = Folder::with("a", &with_sections(&ACROSS_SECTORS, &[(0, 1, &entries)]));
+    let ended = folder.run(&["dump", "a"]);
+    let end = "open: taken, 5 stores to come\n";
+    assert!(ended.text().ends_with(end), "{}", ended.text());
 }
 
 #[test]

@@ -42,6 +42,34 @@ fn each_parameter() {
     assert!(folder.get("a") == expected);
 }
 
+/// Each tag size that there is.
+#[test]
+fn each_tag_size() {
+    let folder = Folder::new();
+    for tag_size in 1..=32 {
+        let name = format!("{tag_size}");
+        let ended = folder.run(&[
+            "format",
+            &name,
+            "--tag-size",
+            &name,
+            "--run=64",
+            "--sectors=70",
+        ]);
+        let layout = reference::volume::Layout {
+            log2_run: 6,
+            tag_size,
+            provided: 70,
+            ..SAMPLE
+        };
+        let sectors = layout.geometry().unwrap().sectors;
+        let said =
+            format!("formatted {sectors} sectors: tag {tag_size} run 64 sections 1 provided 70\n");
+        assert_eq!(ended, Ended::good(&said));
+        assert!(folder.get(&name) == volumes::formatted(&layout, 0));
+    }
+}
+
 #[test]
 fn a_length_of_its_own() {
     let folder = Folder::new();

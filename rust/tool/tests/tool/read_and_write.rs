@@ -59,6 +59,30 @@ fn as_many_batches_as_are_needed() {
     assert!(read.out[160 * 512..] == bytes[60 * 512..61 * 512]);
 }
 
+/// E by the tag's size, and each of the stores that write the sectors back: two, and three where a tag lies across two sectors.
+#[test]
+fn batches_of_each_entry_size() {
+    for (tag_size, entries, across) in [(7, 160, 2), (13, 120, 5), (20, 96, 7), (30, 80, 12)] {
+        let layout = Layout {
+            log2_run: 8,
+            tag_size,
+            provided: 220,
+            ..SAMPLE
+        };
+        let folder = Folder::with("a", &volumes::formatted(&layout, 0));
+        let bytes = pattern(210);
+        folder.put("in", &bytes);
+        let batches = 210u64.div_ceil(entries);
+        let stores = batches * (8 + entries) + 2 * 210 + across;
+        let said =
+            format!("written: {stores} stores\nacknowledged: {batches} of {batches} batches\n");
+        let written = folder.run(&["write", "a", "0", "--input", "in"]);
+        assert_eq!(written, Ended::good(&said));
+        assert!(folder.run(&["read", "a", "0", "--count=210"]).out == bytes);
+        assert_eq!(folder.run(&["check", "a"]).status, 0);
+    }
+}
+
 #[test]
 fn files_for_input_and_output() {
     let folder = Folder::with("a", &volumes::formatted(&OTHER, 0));

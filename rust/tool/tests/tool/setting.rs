@@ -29,6 +29,24 @@ pub const OTHER: Layout = Layout {
     provided: 10,
 };
 
+/// A ward card: r 0, T 20, N 8, S 1, P 8, 128 sectors.
+pub const WARD: Layout = Layout {
+    reserved: 0,
+    log2_run: 3,
+    tag_size: 20,
+    sections: 1,
+    provided: 8,
+};
+
+/// The tag of sector 17 lies across two sectors: r 0, T 30, N 32, S 1, P 24, 128 sectors.
+pub const ACROSS_SECTORS: Layout = Layout {
+    reserved: 0,
+    log2_run: 5,
+    tag_size: 30,
+    sections: 1,
+    provided: 24,
+};
+
 /// A folder of its own, removed at the end.
 pub struct Folder {
     path: PathBuf,

@@ -1,7 +1,9 @@
-//! That a drill tells of what is lost: the proved library loses nothing, so what must be there is told wrong.
+//! That a drill tells of what is lost: the proved library loses nothing, so what must be there is told wrong. And that it makes
+//! the stores that are counted before.
 
 use super::cuts::{Cuts, Lost};
-use super::{report, Batch, Drill, Settings, Stop};
+use super::{report, stores, Batch, Drill, Settings, Stop};
+use crate::layout::sizes;
 use crate::volume::{Tags, Volume};
 use gaffreel::volume::{self, Layout};
 
@@ -14,26 +16,65 @@ const SETTINGS: Settings = Settings {
     key_file: None,
 };
 
+const LAYOUT: Layout = Layout {
+    reserved: 0,
+    log2_run: 4,
+    tag_size: 32,
+    sections: 1,
+    provided: 16,
+};
+
+/// The tag of sector 17 lies across two sectors.
+const ACROSS_SECTORS: Layout = Layout {
+    log2_run: 5,
+    tag_size: 30,
+    provided: 24,
+    ..LAYOUT
+};
+
 /// A volume just formatted, with a sector behind the last run that has these bytes.
-fn formatted(behind: u8) -> Volume {
-    let layout = Layout {
-        reserved: 0,
-        log2_run: 4,
-        tag_size: 32,
-        sections: 1,
-        provided: 16,
-    };
-    let mut bytes = vec![0; 120 * 512];
+fn formatted(layout: &Layout, behind: u8) -> Volume {
+    let mut bytes = vec![0; sizes(layout).sectors * 512];
     bytes.extend([behind; 512]);
-    volume::format(&mut bytes, &layout).unwrap();
+    volume::format(&mut bytes, layout).unwrap();
     Volume::recovered(bytes, 0).unwrap()
 }
 
 fn drill() -> (Drill<'static>, Vec<Batch>) {
-    let volume = formatted(0);
+    let volume = formatted(&LAYOUT, 0);
     let history = SETTINGS.history(&volume);
-    let drill = Drill::new(volume, &Tags::Digest, &SETTINGS, &history);
-    (drill.unwrap(), history)
+    (drill_of(volume, &history), history)
+}
+
+fn drill_of(volume: Volume, history: &[Batch]) -> Drill<'static> {
+    Drill::new(volume, &Tags::Digest, &SETTINGS, history).unwrap()
+}
+
+/// A batch of one write each, of sectors around the one whose tag lies across two, and one of all of them.
+#[test]
+fn stores_of_a_history() {
+    let batch = |sectors: &[u64]| sectors.iter().map(|sector| (*sector, [1; 512])).collect();
+    let history: [Batch; 4] = [
+        batch(&[16]),
+        batch(&[17]),
+        batch(&[18]),
+        batch(&[17, 16, 17]),
+    ];
+    for (layout, counted) in [
+        (ACROSS_SECTORS, 4 * 88 + 2 + 3 + 2 + 3 + 2 + 3),
+        (
+            Layout {
+                tag_size: 20,
+                ..ACROSS_SECTORS
+            },
+            4 * 104 + 2 * 6,
+        ),
+    ] {
+        let mut drill = drill_of(formatted(&layout, 0), &history);
+        assert!(drill.play(&history).is_ok());
+        assert_eq!(drill.stores, counted);
+        assert_eq!(stores(&history, &sizes(&layout)), counted);
+    }
 }
 
 fn told(drill: &mut Drill, history: &[Batch]) -> String {
@@ -67,7 +108,7 @@ fn of_a_batch_that_is_acknowledged_too_late() {
 #[test]
 fn of_bytes_outside_journal_and_runs() {
     let (mut drill, history) = drill();
-    drill.cuts = Cuts::new(&formatted(1), &Tags::Digest, u64::MAX);
+    drill.cuts = Cuts::new(&formatted(&LAYOUT, 1), &Tags::Digest, u64::MAX);
     let told = told(&mut drill, &history);
     assert!(told.contains("bytes outside journal and runs were changed"));
 }
