@@ -23,8 +23,8 @@ use Rattle.on_disk.proofs.Addresses.{Ranged, ranged, data-room, tag-room, next-
 use Rattle.model.proofs.Plans.{Homing, inOne, inTwo, homing, home-crosses}
 use Rattle.on_disk.proofs.Sections.{bytes-length, tag-length}
 use Rattle.layout.proofs.Sizes.{width-high}
-use Rattle.stores.specs.declared.tags.TagPart.{TagPart}
-use Rattle.stores.specs.TagParts.{tagPartOf}
+use Rattle.stores.specs.declared.tags.TagPiece.{TagPiece}
+use Rattle.stores.specs.TagPieces.{tagPieceOf}
 use Rattle.stores.specs.Asked.{StoreOfEntry}
 use Rattle.stores.specs.Changes.{Changes}
 
@@ -50,14 +50,14 @@ module _ (g : Layout) (ok : layoutOk g ≡ true) (n b : ℕ) (eb : b ≡ tagByte
   pub first-size : 512 - b % 512 ≡ firstPart g n
   first-size = omega (arith, tag-sector g (ranged g ok) n, tag-offset g (ranged g ok) n)
 
-  pub part-behind-first : (h : ℕ) → h ≢ 1 → record { from = 512 - b % 512; byte = b + (512 - b % 512); size = g .width - (512 - b % 512) } ≡ tagPartOf g n h
+  pub part-behind-first : (h : ℕ) → h ≢ 1 → record { from = 512 - b % 512; byte = b + (512 - b % 512); size = g .width - (512 - b % 512) } ≡ tagPieceOf g n h
   part-behind-first h k = rw (ne-eqb h 1 k, first-size, eb)
 
-  pub part-to-end : (h : ℕ) → h ≡ 1 → 512 - b % 512 < g .width → record { from = 0; byte = b; size = 512 - b % 512 } ≡ tagPartOf g n h
+  pub part-to-end : (h : ℕ) → h ≡ 1 → 512 - b % 512 < g .width → record { from = 0; byte = b; size = 512 - b % 512 } ≡ tagPieceOf g n h
   part-to-end h k l =
       rw (eq-eqb h 1 k, lt-ltb 512 (tagOffset g n + g .width) (omega (arith, first-size, tag-offset g (ranged g ok) n)), first-size, eb)
 
-  pub part-whole : (h : ℕ) → h ≡ 1 → g .width ≤ 512 - b % 512 → record { from = 0; byte = b; size = g .width } ≡ tagPartOf g n h
+  pub part-whole : (h : ℕ) → h ≡ 1 → g .width ≤ 512 - b % 512 → record { from = 0; byte = b; size = g .width } ≡ tagPieceOf g n h
   part-whole h k l =
       rw (eq-eqb h 1 k, le-ltb 512 (tagOffset g n + g .width) (omega (arith, first-size, tag-offset g (ranged g ok) n)), eb)
 
@@ -68,7 +68,7 @@ part-replaced v a off x out o₁ r room size e₁ er =
     er ∙ ap (λ (y : List ℕ). patch y off x) (e₁ ∙ patch-all out (part v (a * 512) 512) (length-part v (a * 512) 512 (omega arith) ∙ sym size))
 
 -- what is used of a part of the tag of e, for store h
-pub record TagPartFor (g : Layout) (v : List ℕ) (e : Entry) (h : ℕ) (r : TagPart) : Type 0 where
+pub record TagPieceFor (g : Layout) (v : List ℕ) (e : Entry) (h : ℕ) (r : TagPiece) : Type 0 where
   pub room : (r .byte / 512 + 1) * 512 ≤ needed g * 512
   pub inside : r .byte % 512 + r .size ≤ 512
   pub within : r .from + r .size ≤ g .width
@@ -97,7 +97,7 @@ module _ (g : Layout) (ok : layoutOk g ≡ true) (v : List ℕ) (e : Entry) (low
   goes-on-offset = omega (arith, tag-sector g R n, tag-offset g R n)
 
   first-part : (size : ℕ) → size + tagOffset g n ≤ 512 → size ≤ g .width → part (e .tag) 0 size ≡ take (firstPart g n) (e .tag)
-      → TagPartFor g v e 1 (record { from = 0; byte = tagByte g n; size = size })
+      → TagPieceFor g v e 1 (record { from = 0; byte = tagByte g n; size = size })
   first-part size fits small is =
       record {
         room = omega (arith, begins-sector, tag-room g R n low);
@@ -108,7 +108,7 @@ module _ (g : Layout) (ok : layoutOk g ≡ true) (v : List ℕ) (e : Entry) (low
       }
 
   rest-part : (h : ℕ) → crosses g n ≡ true
-      → TagPartFor g v e (suc (suc h)) (record { from = firstPart g n; byte = tagByte g n + firstPart g n; size = g .width - firstPart g n })
+      → TagPieceFor g v e (suc (suc h)) (record { from = firstPart g n; byte = tagByte g n + firstPart g n; size = g .width - firstPart g n })
   rest-part h c =
       let rest : part (e .tag) (firstPart g n) (g .width - firstPart g n) ≡ drop (firstPart g n) (e .tag) =
       take-all (g .width - firstPart g n) (drop (firstPart g n) (e .tag)) (omega (arith, length-drop (firstPart g n) (e .tag))) in
@@ -120,27 +120,27 @@ module _ (g : Layout) (ok : layoutOk g ≡ true) (v : List ℕ) (e : Entry) (low
         content = λ i. patch (sectorAt v (goes-on-sector i)) (goes-on-offset i) (rest i);
       }
 
-  pub tag-part-for : (h : ℕ) → h ≢ 0 → h < homeCount g e → TagPartFor g v e h (tagPartOf g n h)
-  tag-part-for zero z l = absurd (z refl)
-  tag-part-for (suc zero) z l = go (homing g e)
+  pub tag-piece-for : (h : ℕ) → h ≢ 0 → h < homeCount g e → TagPieceFor g v e h (tagPieceOf g n h)
+  tag-piece-for zero z l = absurd (z refl)
+  tag-piece-for (suc zero) z l = go (homing g e)
     where
-      go : Homing g e → TagPartFor g v e 1 (tagPartOf g n 1)
+      go : Homing g e → TagPieceFor g v e 1 (tagPieceOf g n 1)
       go (inOne c m) =
           let fits = not-crossing g R n c in
           rw c (first-part (g .width) (omega arith) (omega arith)
           (part-all (e .tag) (g .width) sized ∙ sym (take-all (firstPart g n) (e .tag) (omega arith))))
       go (inTwo c m) = rw c (first-part (firstPart g n) (omega (arith, tag-offset g R n)) (omega (arith, crossing g R n c, tag-offset g R n)) refl)
-  tag-part-for (suc (suc h)) z l = rw (ne-eqb (suc (suc h)) 1 (λ q. omega arith)) (rest-part h (home-crosses g e (omega arith)))
+  tag-piece-for (suc (suc h)) z l = rw (ne-eqb (suc (suc h)) 1 (λ q. omega arith)) (rest-part h (home-crosses g e (omega arith)))
 
 -- the part of the tag that is stored, as the code finds it
 module _ (g : Layout) (sec : List ℕ) (i n h : ℕ) (asked : StoreOfEntry g sec i n h) (some : h ≢ 0) where
   pub goes-on : h ≢ 1 → crosses g n ≡ true
   goes-on k = ap (crosses g) (asked .is) ∙ home-crosses g (entryOf (g .width) sec i) (omega (arith, asked .store))
 
-  pub part-found : (v : List ℕ) (p : TagPart) → p ≡ tagPartOf g n h → TagPartFor g v (entryOf (g .width) sec i) h p
+  pub part-found : (v : List ℕ) (p : TagPiece) → p ≡ tagPieceOf g n h → TagPieceFor g v (entryOf (g .width) sec i) h p
   part-found v p q =
-      subst (TagPartFor g v (entryOf (g .width) sec i) h) (sym (q ∙ ap (λ (x : ℕ). tagPartOf g x h) (asked .is)))
-      (tag-part-for g (asked .layout) v (entryOf (g .width) sec i) (omega (arith, asked .is, asked .low))
+      subst (TagPieceFor g v (entryOf (g .width) sec i) h) (sym (q ∙ ap (λ (x : ℕ). tagPieceOf g x h) (asked .is)))
+      (tag-piece-for g (asked .layout) v (entryOf (g .width) sec i) (omega (arith, asked .is, asked .low))
       (tag-length (g .width) i (width-high g (asked .layout)) (asked .entry) sec (asked .long)) h some (asked .store))
 
 -- the stores that bring an entry home
@@ -149,7 +149,7 @@ module _ (g : Layout) (v : List ℕ) (e : Entry) (n : ℕ) (en : n ≡ e .sector
   data-filled z ea ec = rw (← z) (λ i. record { at = (ea ∙ ap (dataAt g) en) i; content = ec i })
 
   -- some bytes of the tag, put in the sector of the volume
-  pub tag-filled : (p : TagPart) → TagPartFor g v e h p → (t : List ℕ) → t ≡ e .tag → a ≡ p .byte / 512
+  pub tag-filled : (p : TagPiece) → TagPieceFor g v e h p → (t : List ℕ) → t ≡ e .tag → a ≡ p .byte / 512
       → c ≡ patch (sectorAt v (p .byte / 512)) (p .byte % 512) (part t (p .from) (p .size)) → record { at = a; content = c } ≡ homeStore g v e h
   tag-filled p is t et ea ec =
       λ i. record {
@@ -184,7 +184,7 @@ module _ (g : Layout) (ok : layoutOk g ≡ true) (sec : List ℕ) (size : length
       div-mul : (a : ℕ) → a * 512 / 512 ≡ a
       div-mul a = omega arith
 
-  pub tag-changed : (p : TagPart) → TagPartFor g v e h p → (t out : List ℕ) → t ≡ e .tag → length out ≡ 512 → c ≡ patch out 0 (part t (p .from) (p .size))
+  pub tag-changed : (p : TagPiece) → TagPieceFor g v e h p → (t out : List ℕ) → t ≡ e .tag → length out ≡ 512 → c ≡ patch out 0 (part t (p .from) (p .size))
       → Changes v (homeStore g v e h) (record { byte = p .byte; size = p .size }) c
   tag-changed p is t out et full ec =
       let long : length (part (e .tag) (p .from) (p .size)) ≡ p .size = length-part (e .tag) (p .from) (p .size) (omega (arith, is .within, sized)) in

@@ -1,4 +1,4 @@
 -- What the code asks and hands back, beside the model's stores.
 pub mod Asked
 pub mod Changes
-pub mod TagParts
+pub mod TagPieces

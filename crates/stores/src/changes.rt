@@ -41,7 +41,7 @@ pub fn home_part(
         };
     }
     let tag = section::entry_tag(section, g.width, i);
-    let p = tags::tag_part(g, sector, h);
+    let p = tags::tag_piece(g, sector, h);
     octets::copy_at(out, 0, tag, p.from, p.size);
     Part {
         byte: p.byte,

@@ -6,7 +6,7 @@
 pub mod changes;
 pub mod tags;
 
-use crate::tags::TagPart;
+use crate::tags::TagPiece;
 use layout::SECTOR_SIZE;
 use model::State;
 use on_disk::Layout;
@@ -36,7 +36,7 @@ pub fn commit_store(s: State, st: &[u8], j: usize, out: &mut [u8]) -> usize
 }
 
 // The sector with some bytes of a tag: the volume's, with only these replaced, so that the neighbours' tags stay.
-fn tag_store(v: &[u8], tag: &[u8], p: TagPart, out: &mut [u8]) -> usize
+fn tag_store(v: &[u8], tag: &[u8], p: TagPiece, out: &mut [u8]) -> usize
     requires { ⌜ ((p .byte / sectorSize + 1) * sectorSize ≤ length (now v)) × (p .byte % sectorSize + p .size ≤ sectorSize) × (p .from + p .size ≤ length (now tag)) × (length (now out) ≡ sectorSize) ⌝ }
     ensures { λ r. ⌜ (r ≡ p .byte / sectorSize) × (now (out .exit) ≡ patch (sectorAt (now (v .entry)) (p .byte / sectorSize)) (p .byte % sectorSize) (part (now (tag .entry)) (p .from) (p .size))) ⌝ }
 {
@@ -65,5 +65,5 @@ pub fn home_store(
         return layout::data_at(g, sector);
     }
     let tag = section::entry_tag(section, g.width, i);
-    tag_store(v, tag, tags::tag_part(g, sector, h), out)
+    tag_store(v, tag, tags::tag_piece(g, sector, h), out)
 }

@@ -20,8 +20,8 @@ returns c =
 entry-tag-requires : tie.Need-entry-tag-requires
 entry-tag-requires c κs = (width-high (c .before .before .before .before .args .g) (c .before .before .before .before .pre .0 .layout), c .before .before .before .before .pre .0 .entry, c .before .before .before .before .pre .0 .long)
 
-tag-part-requires : tie.Need-tag-part-requires
-tag-part-requires c κs = (
+tag-piece-requires : tie.Need-tag-piece-requires
+tag-piece-requires c κs = (
   c .before .before .before .before .before .pre .0 .layout,
   c .before .before .before .before .before .pre .0 .low,
   goes-on (c .before .before .before .before .before .args .g) (c .before .before .before .before .before .args .section .now) (c .before .before .before .before .before .args .i) (c .before .before .before .before .before .args .sector) (c .before .before .before .before .before .args .h) (c .before .before .before .before .before .pre .0) (λ q. omega (arith, q, c .before .if1 .left)),
@@ -30,15 +30,15 @@ tag-part-requires c κs = (
 tag-store-requires : tie.Need-tag-store-requires
 tag-store-requires c κs =
     let found = part-found (c .before .before .before .before .before .before .before .args .g) (c .before .before .before .before .before .before .before .args .section .now) (c .before .before .before .before .before .before .before .args .i) (c .before .before .before .before .before .before .before .args .sector) (c .before .before .before .before .before .before .before .args .h) (c .before .before .before .before .before .before .before .pre .0) (λ q. omega (arith, q, c .before .before .before .if1 .left)) (c .before .before .before .before .before .before .before .args .v .now)
-    (c .before .tag-part .result) (c .before .tag-part .ensures) in
+    (c .before .tag-piece .result) (c .before .tag-piece .ensures) in
     (omega (arith, found .room, c .before .before .before .before .before .before .before .pre .1), found .inside, omega (arith, found .within, c .before .before .entry-tag .ensures .1), c .before .before .before .before .before .before .before .pre .2)
 
 returns-2 : tie.Need-returns-2
 returns-2 c =
     tag-filled (c .before .before .before .before .before .before .before .before .before .before .args .g) (c .before .before .before .before .before .before .before .before .before .before .args .v .now) (entryOf (c .before .before .before .before .before .before .before .before .before .before .args .g .width) (c .before .before .before .before .before .before .before .before .before .before .args .section .now) (c .before .before .before .before .before .before .before .before .before .before .args .i)) (c .before .before .before .before .before .before .before .before .before .before .args .sector) (c .before .before .before .before .before .before .before .before .before .before .pre .0 .is) (c .before .before .before .before .before .before .before .before .before .before .args .h) (c .before .before .tag-store .result) _
-    (c .before .before .before .before .tag-part .result)
+    (c .before .before .before .before .tag-piece .result)
     (part-found (c .before .before .before .before .before .before .before .before .before .before .args .g) (c .before .before .before .before .before .before .before .before .before .before .args .section .now) (c .before .before .before .before .before .before .before .before .before .before .args .i) (c .before .before .before .before .before .before .before .before .before .before .args .sector) (c .before .before .before .before .before .before .before .before .before .before .args .h) (c .before .before .before .before .before .before .before .before .before .before .pre .0) (λ q. omega (arith, q, c .before .before .before .before .before .before .if1 .left)) (c .before .before .before .before .before .before .before .before .before .before .args .v .now)
-    (c .before .before .before .before .tag-part .result) (c .before .before .before .before .tag-part .ensures))
+    (c .before .before .before .before .tag-piece .result) (c .before .before .before .before .tag-piece .ensures))
     (c .before .before .before .before .before .entry-tag .result .now) (c .before .before .before .before .before .entry-tag .ensures .0) (c .before .before .tag-store .ensures .0) (c .before .before .tag-store .ensures .1)
 
 pub home-store-spec : {M : Type 1} → statement M
@@ -50,7 +50,7 @@ home-store-spec =
     (λ c. search needs)
     returns
     entry-tag-requires
-    tag-part-requires
+    tag-piece-requires
     tag-store-requires
     (λ c. search needs)
     returns-2)

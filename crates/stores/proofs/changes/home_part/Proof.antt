@@ -20,8 +20,8 @@ returns c =
 entry-tag-requires : tie.Need-entry-tag-requires
 entry-tag-requires c κs = (width-high (c .before .before .before .args .g) (c .before .before .before .pre .0 .layout), c .before .before .before .pre .0 .entry, c .before .before .before .pre .0 .long)
 
-tag-part-requires : tie.Need-tag-part-requires
-tag-part-requires c κs = (
+tag-piece-requires : tie.Need-tag-piece-requires
+tag-piece-requires c κs = (
   c .before .before .before .before .pre .0 .layout,
   c .before .before .before .before .pre .0 .low,
   goes-on (c .before .before .before .before .args .g) (c .before .before .before .before .args .section .now) (c .before .before .before .before .args .i) (c .before .before .before .before .args .sector) (c .before .before .before .before .args .h) (c .before .before .before .before .pre .0) (λ q. omega (arith, q, c .before .if1 .left)),
@@ -30,16 +30,16 @@ tag-part-requires c κs = (
 copy-at-requires : tie.Need-copy-at-requires
 copy-at-requires c κs =
     let found = part-found (c .before .before .before .before .before .before .args .g) (c .before .before .before .before .before .before .args .section .now) (c .before .before .before .before .before .before .args .i) (c .before .before .before .before .before .before .args .sector) (c .before .before .before .before .before .before .args .h) (c .before .before .before .before .before .before .pre .0) (λ q. omega (arith, q, c .before .before .before .if1 .left)) (c .before .before .before .before .before .before .args .out .now)
-    (c .before .tag-part .result) (c .before .tag-part .ensures) in
+    (c .before .tag-piece .result) (c .before .tag-piece .ensures) in
     (omega (arith, found .inside, c .before .before .before .before .before .before .pre .1), omega (arith, found .within, c .before .before .entry-tag .ensures .1))
 
 returns-2 : tie.Need-returns-2
 returns-2 c =
     λ v room.
     tag-changed (c .before .before .before .before .before .before .before .before .before .args .g) (c .before .before .before .before .before .before .before .before .before .pre .0 .layout) (c .before .before .before .before .before .before .before .before .before .args .section .now) (c .before .before .before .before .before .before .before .before .before .pre .0 .long) (c .before .before .before .before .before .before .before .before .before .args .i) (c .before .before .before .before .before .before .before .before .before .pre .0 .entry) (c .before .before .before .before .before .before .before .before .before .args .sector) (c .before .before .before .before .before .before .before .before .before .pre .0 .is) (c .before .before .before .before .before .before .before .before .before .pre .0 .low) (c .before .before .before .before .before .before .before .before .before .args .h) _ v room
-    (c .before .before .before .before .tag-part .result)
+    (c .before .before .before .before .tag-piece .result)
     (part-found (c .before .before .before .before .before .before .before .before .before .args .g) (c .before .before .before .before .before .before .before .before .before .args .section .now) (c .before .before .before .before .before .before .before .before .before .args .i) (c .before .before .before .before .before .before .before .before .before .args .sector) (c .before .before .before .before .before .before .before .before .before .args .h) (c .before .before .before .before .before .before .before .before .before .pre .0) (λ q. omega (arith, q, c .before .before .before .before .before .before .if1 .left)) v
-    (c .before .before .before .before .tag-part .result) (c .before .before .before .before .tag-part .ensures))
+    (c .before .before .before .before .tag-piece .result) (c .before .before .before .before .tag-piece .ensures))
     (c .before .before .before .before .before .entry-tag .result .now) (c .before .before .before .before .before .before .before .before .before .args .out .now) (c .before .before .before .before .before .entry-tag .ensures .0) (c .before .before .before .before .before .before .before .before .before .pre .1) (c .before .before .copy-at .ensures)
 
 pub home-part-spec : {M : Type 1} → statement M
@@ -52,7 +52,7 @@ home-part-spec =
     (λ c. search needs)
     returns
     entry-tag-requires
-    tag-part-requires
+    tag-piece-requires
     copy-at-requires
     (λ c. search needs)
     returns-2)

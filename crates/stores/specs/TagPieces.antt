@@ -1,15 +1,15 @@
 -- The bytes of a tag that one store brings home: R46, R116.
 --
--- tagPartOf g s h : those of store h, 1 or 2, of an entry for logical sector s: up to the end of the sector in which the tag begins, or the others
+-- tagPieceOf g s h : those of store h, 1 or 2, of an entry for logical sector s: up to the end of the sector in which the tag begins, or the others
 use Prim.Native.Nat.{ℕ, _+_, _-_}
 use lib.Dec.{eqb}
 use Rattle.octets.specs.Choice.{pick}
 use Rattle.on_disk.specs.declared.Layout.{Layout}
 use Rattle.on_disk.specs.Layout.{tagByte, crosses, firstPart}
-use Rattle.stores.specs.declared.tags.TagPart.{TagPart}
+use Rattle.stores.specs.declared.tags.TagPiece.{TagPiece}
 
-abbrev pub tagPartOf : Layout → ℕ → ℕ → TagPart
-tagPartOf g s h =
+abbrev pub tagPieceOf : Layout → ℕ → ℕ → TagPiece
+tagPieceOf g s h =
     pick (eqb h 1)
     (record { from = 0; byte = tagByte g s; size = pick (crosses g s) (firstPart g s) (g .width) })
     (record { from = firstPart g s; byte = tagByte g s + firstPart g s; size = g .width - firstPart g s })
