@@ -44,9 +44,9 @@
  *     gaffreel_volume_open          3,456
  *     gaffreel_volume_write         2,368
  *     gaffreel_volume_flush           384
- *     gaffreel_volume_step          2,496
- *     gaffreel_volume_next_store    1,920
- *     gaffreel_volume_advance       3,968
+ *     gaffreel_volume_step          2,304
+ *     gaffreel_volume_next_store    1,792
+ *     gaffreel_volume_advance       3,776
  *     gaffreel_volume_read          2,432
  *     gaffreel_volume_verify        2,240
  *     gaffreel_volume_format_keyed  3,264
@@ -313,7 +313,7 @@ enum gaffreel_volume_phase {
     GAFFREEL_VOLUME_FILLING = 0,
     /* The sector of the section that is stored next. */
     GAFFREEL_VOLUME_COMMITTING = 1,
-    /* The entry, and its store that is made next: 0 for its data, 1 for its tag, 2 for what of that lies in the next sector. */
+    /* The entry, and its store that is made next: 0 for its data, 1 for its tag, 2 for the rest of a tag in the next sector. */
     GAFFREEL_VOLUME_WRITING_BACK = 2,
     /* The store of the replay that is made next. */
     GAFFREEL_VOLUME_RECOVERING = 3
@@ -408,7 +408,8 @@ uint32_t gaffreel_volume_flush(uint8_t *state, size_t state_length, uint8_t *ans
  * sector of the volume that was stored, else 0; what the step says, as bits.
  *
  * Refused, in this order, with
- *   - GAFFREEL_LENGTH_OR_LIMIT where a buffer has a wrong length, the state is not sound, or it does not fit the volume;
+ *   - GAFFREEL_LENGTH_OR_LIMIT where a buffer has a wrong length, the state is not sound, it does not fit the volume, or its
+ *     place in writing back is a store that the staged entry does not have;
  *   - GAFFREEL_SECTOR_RANGE for the entry that is being written back or replayed.
  */
 uint32_t gaffreel_volume_step(uint8_t *state, size_t state_length, uint8_t *volume, size_t volume_length,
@@ -449,7 +450,8 @@ uint32_t gaffreel_volume_advance(uint8_t *state, size_t state_length, uint8_t *v
  * Writes the bytes of a logical sector to `bytes`: those of the newest entry for it in the batch, else the volume's.
  *
  * Refused, in this order, with
- *   - GAFFREEL_LENGTH_OR_LIMIT where a buffer has a wrong length, the state is not sound, or it does not fit the volume;
+ *   - GAFFREEL_LENGTH_OR_LIMIT where a buffer has a wrong length, the state is not sound, it does not fit the volume, or its
+ *     place in writing back is a store that the staged entry does not have;
  *   - GAFFREEL_NOT_NOW while the volume is recovering;
  *   - GAFFREEL_SECTOR_RANGE;
  *   - GAFFREEL_TAG_MISMATCH.
@@ -488,7 +490,7 @@ uint32_t gaffreel_volume_verify(const uint8_t *state, size_t state_length, const
  *   - A wrong key, or a call without one, shows only where a tag is tested and differs, as GAFFREEL_TAG_MISMATCH: at open for an
  *     entry that is to be replayed, at read for a sector that is not in the batch, at verify for any. It cannot be told from
  *     damage. An open with nothing to replay takes any key; a read behind it, of a sector that is known to be good, tells the
- *     right one.
+ *     right one, but for one key in 256^T; where tags are short, so many reads more.
  *   - A write under a wrong key, or without one, is not noticed: its batch is committed and acknowledged with tags of that key.
  *     Under the right key its sectors are then refused until they are written again, and every open is as long as the
  *     batch stands whole in the journal.

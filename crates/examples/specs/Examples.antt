@@ -18,7 +18,7 @@ use Rattle.model.specs.Refusal.{refusalOf}
 use Rattle.on_disk.specs.Layout.{widthOk, layoutOk, entrySize, perSector, entryCount, sectionSize, tagArea, dataAt, tagStart, tagByte, needed}
 use Rattle.on_disk.specs.Section.{emptySection}
 use Rattle.model.specs.Journal.{sectionFor}
-use Rattle.model.specs.Store.{homeCount}
+use Rattle.model.specs.Store.{homeCount, homeStore}
 use Rattle.model.specs.State.{stateOk, stagingOk}
 use Rattle.model.specs.Tag.{tagOf}
 use Rattle.model.specs.Format.{formatOf}
@@ -54,9 +54,12 @@ ward = record { reserved = 0; shift = 3; width = 20; sections = 1; provided = 8 
 abbrev crossing : Layout
 crossing = record { reserved = 0; shift = 5; width = 30; sections = 1; provided = 24 }
 
--- how many stores bring an entry for logical sector s home there
+-- how many stores bring an entry for logical sector s home there, and where store h of them goes
 abbrev storesFor : ℕ → ℕ
 storesFor s = homeCount crossing (record { sector = s; bytes = []; tag = [] })
+
+abbrev storeAt : ℕ → ℕ → ℕ
+storeAt s h = homeStore crossing [] (record { sector = s; bytes = []; tag = [] }) h .at
 
 -- a refusal's number and values; nothing where the call is taken
 abbrev refusalIn : {A : Type 0} → Answer ℕ A → List ℕ
@@ -106,11 +109,12 @@ table =
     record { given = refusedWidth 0 ++ refusedWidth 33; paper = 2 ∷ 2 ∷ [] } ∷
     -- T 20, N 8, P 8, and T 30, N 32, P 24: the sectors needed, which the bench program takes
     record { given = needed ward ∷ needed crossing ∷ []; paper = 128 ∷ 128 ∷ [] } ∷
-    -- T 30, N 32, P 24: the byte of the tag area at which the tag of sector 17 starts, so that it goes on in the next sector; the stores of sectors 16, 17 and
-    -- 18, and of 49, which is not below P and has 49 mod N = 17 (R116, R117)
+    -- T 30, N 32, P 24: the byte of the tag area at which the tag of sector 17 starts, so that it goes on in the next sector; where its three stores go, the
+    -- lower sector of the tag before the upper (R116); how many stores sectors 16, 17 and 18 have, and 49, which is not below P and has 49 mod N = 17 (R117)
     record {
-      given = tagStart crossing 17 ∷ storesFor 16 ∷ storesFor 17 ∷ storesFor 18 ∷ storesFor 49 ∷ [];
-      paper = 510 ∷ 2 ∷ 3 ∷ 2 ∷ 3 ∷ [];
+      given =
+          tagStart crossing 17 ∷ storeAt 17 0 ∷ storeAt 17 1 ∷ storeAt 17 2 ∷ storesFor 16 ∷ storesFor 17 ∷ storesFor 18 ∷ storesFor 49 ∷ [];
+      paper = 510 ∷ 121 ∷ 96 ∷ 97 ∷ 2 ∷ 3 ∷ 2 ∷ 3 ∷ [];
     } ∷
     -- T 32: A, R19, for N 128 and N 256
     record { given = tagArea (tagged 7) ∷ tagArea (tagged 8) ∷ []; paper = 8 ∷ 16 ∷ [] } ∷

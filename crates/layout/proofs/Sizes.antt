@@ -1,5 +1,5 @@
 -- Bounds of sizes and addresses, for layouts in range. A product of two variables is bounded by the product of their bounds.
-use Prim.Native.Nat.{ℕ, _+_, _*_, _/_, _%_, _^_, _≤_, _<_}
+use Prim.Native.Nat.{ℕ, _+_, _-_, _*_, _/_, _%_, _^_, _≤_, _<_}
 use mathlib.Core.Bool.{true}
 use mathlib.Core.Path.{_≡_, refl, sym, ap}
 use native.Mathlib.Nat.{mul-le-mul, mul-le-mul-left, div-add-mod', mod-lt, pow-le-pow-right}
@@ -58,6 +58,14 @@ module _ (g : Layout) (ok : layoutOk g ≡ true) where
   pub run-high : runLength g ≤ 2 ^ 15
   run-high = pow-le-pow-right (omega arith) shift-high
 
+  -- a remainder by two shifts
+  pub by-shifts : (s : ℕ) → s < 2 ^ 64
+      → (s / runLength g * runLength g % 2 ^ 64 ≤ s) × (s - s / runLength g * runLength g % 2 ^ 64 ≡ s % runLength g) × (s % runLength g ≤ 2 ^ 15)
+  by-shifts s l =
+      let whole : s / runLength g * runLength g + s % runLength g ≡ s = div-add-mod' s (runLength g) in
+      let kept : s / runLength g * runLength g % 2 ^ 64 ≡ s / runLength g * runLength g = omega arith in
+      (omega arith, omega arith, omega (arith, run-high, mod-lt s run-low))
+
   module _ (n : ℕ) (is-length : n ≡ runLength g) where
     pub tags-product : (n * g .width ≡ runLength g * g .width) × (n * g .width ≤ 2 ^ 15 * 32)
     tags-product =
@@ -82,14 +90,14 @@ module _ (g : Layout) (ok : layoutOk g ≡ true) where
 
   -- ---- the stores of an entry, by where its tag ends
 
-  module _ (n : ℕ) (is-length : n ≡ runLength g) (s : ℕ) (e : Entry) (is-sector : e .sector ≡ s) where
-    ends-at : tagOffset g (e .sector) + g .width ≡ s % n * g .width % 512 + g .width
-    ends-at = rw (is-sector, is-length)
+  module _ (n : ℕ) (e : Entry) (is-place : n ≡ e .sector % runLength g) where
+    ends-at : tagOffset g (e .sector) + g .width ≡ n * g .width % 512 + g .width
+    ends-at = rw is-place
 
-    pub in-two : 512 < s % n * g .width % 512 + g .width → 3 ≡ homeCount g e
+    pub in-two : 512 < n * g .width % 512 + g .width → 3 ≡ homeCount g e
     in-two l = sym (home-in-two g e (lt-ltb 512 (tagOffset g (e .sector) + g .width) (rw ends-at l)))
 
-    pub in-one : s % n * g .width % 512 + g .width ≤ 512 → 2 ≡ homeCount g e
+    pub in-one : n * g .width % 512 + g .width ≤ 512 → 2 ≡ homeCount g e
     in-one l = sym (home-in-one g e (le-ltb 512 (tagOffset g (e .sector) + g .width) (rw ends-at l)))
 
   -- section k ends within the volume

@@ -8,7 +8,7 @@ pub mod superblock;
 use on_disk::Layout;
 ghost use mathlib.Core.Bool.{true};
 ghost use mathlib.Core.Path.{_≡_};
-ghost use Prim.Native.Nat.{_*_, _^_, _≤_, _<_};
+ghost use Prim.Native.Nat.{_*_, _%_, _^_, _≤_, _<_};
 ghost use lib.ListN.{length};
 ghost use Rattle.on_disk.specs.Layout.{mostWidth, mostProvided, entrySize, perSector, entryCount, sectionSize, sectionAt, runLength, tagArea, runAt, dataAt, tagByte, needed, widthOk, layoutOk};
 ghost use Rattle.on_disk.specs.Section.{Entry};
@@ -171,14 +171,22 @@ pub fn tag_byte(g: Layout, s: usize) -> usize
     run_at(g, s) * SECTOR_SIZE + s % run_length(g) * g.width
 }
 
+// s mod N, the place of a sector in its run. N is a power of two, so that shifts do for a division, which would take longer than a store of a recovery.
+fn place_in_run(g: Layout, s: u64) -> usize
+    requires { ⌜ layoutOk g ≡ true ⌝ }
+    ensures { λ r. ⌜ (r ≡ s % runLength g) × (r ≤ 2 ^ 15) ⌝ }
+{
+    let before = (s >> g.shift) << g.shift;
+    (s - before) as usize
+}
+
 // How many stores bring an entry for a logical sector home: its data sector, the sector in which its tag begins, and the next one if the tag goes on in it.
 // Any number may be asked.
 pub fn home_stores(g: Layout, sector: u64) -> usize
     requires { ⌜ layoutOk g ≡ true ⌝ }
     ensures { λ r. ⌜ ((e : Entry) → e .sector ≡ sector → r ≡ homeCount g e) × (0 < r) × (r ≤ mostHomeStores) ⌝ }
 {
-    let place = (sector % run_length(g) as u64) as usize;
-    if SECTOR_SIZE < place * g.width % SECTOR_SIZE + g.width {
+    if SECTOR_SIZE < place_in_run(g, sector) * g.width % SECTOR_SIZE + g.width {
         return 3;
     }
     2

@@ -20,7 +20,9 @@ use Rattle.on_disk.specs.Section.{Entry, entryOf, emptySection}
 use Rattle.model.specs.Journal.{wholeId, usedOf}
 use Rattle.model.specs.Tag.{Tags, TagsOf, tagOf, hmacTagOf, tagAt}
 use Rattle.model.specs.Store.{homeCount, homesMade}
-use Rattle.model.specs.State.{passed, volumeLoanOk, inPhase}
+use Rattle.model.specs.State.{passed, volumeLoanOk, stateOk, volumeOk, stagingOk, inPhase}
+use Rattle.model.specs.NextStore.{nextStoreOf}
+use Rattle.model.specs.Flush.{flushOf}
 use Rattle.model.specs.Format.{FormatResult, formatOf}
 use Rattle.model.specs.Open.{openOf}
 use Rattle.model.specs.Write.{writeOf}
@@ -177,6 +179,40 @@ greatest-by-its-sectors : (g : Layout) → layoutOk g ≡ true → (v w : List �
     → (crosses g (2 ^ 64 - 1) ≡ true → sectorAt v (tagSector g (2 ^ 64 - 1) + 1) ≡ sectorAt w (tagSector g (2 ^ 64 - 1) + 1))
     → tagAt g v (2 ^ 64 - 1) ≡ tagAt g w (2 ^ 64 - 1)
 greatest-by-its-sectors g ok v w e p q = tag-by-its-sectors g ok v w e (2 ^ 64 - 1) p q
+
+module _ (tags : Tags) (s : State) (v st : List ℕ) where
+  abbrev third : State
+  third = inPhase s (WritingBack (s .count - 1) 2)
+
+  abbrev fourth : State
+  fourth = inPhase s (WritingBack (s .count - 1) 3)
+
+  third-written : writeOf tags third st (2 ^ 64 - 1) [] .answer ≡ writeOf tags (inPhase s (WritingBack (s .count - 1) 0)) st (2 ^ 64 - 1) [] .answer
+  third-written = third-store tags .write s st (2 ^ 64 - 1) [] (s .count - 1)
+
+  third-flushed : flushOf third .answer ≡ flushOf (inPhase s (WritingBack (s .count - 1) 0)) .answer
+  third-flushed = third-store tags .flush s (s .count - 1)
+
+  module _ (alone : crosses (s .layout) (entryOf (s .layout .width) st (s .count - 1) .sector) ≡ false) where
+    third-told : nextStoreOf third v st [] .answer ≡ refuse 1 []
+    third-told = third-store tags .next s v st [] (s .count - 1) alone
+
+    third-read : readOf tags third v st (2 ^ 64 - 1) [] .answer ≡ refuse 1 []
+    third-read = third-store tags .read s v st (2 ^ 64 - 1) [] (s .count - 1) alone
+
+  first-beyond : stateOk third ≡ true → volumeOk third v ≡ true → stagingOk (s .layout) st ≡ true
+      → crosses (s .layout) (entryOf (s .layout .width) st (s .count - 1) .sector) ≡ true
+      → entryOf (s .layout .width) st (s .count - 1) .sector ≡ s .layout .provided → stepOf third v st .answer ≡ refuse 6 ((s .count - 1) ∷ [])
+  first-beyond a b c x l = third-store tags .beyond s v st (s .count - 1) a b c x (omega arith)
+
+  fourth-refused : (writeOf tags fourth st 0 [] .answer ≡ refuse 1 []) × (flushOf fourth .answer ≡ refuse 1 [])
+      × (stepOf fourth v st .answer ≡ refuse 1 []) × (readOf tags fourth v st 0 [] .answer ≡ refuse 1 [])
+  fourth-refused = (
+    third-store tags .fourth-write s st 0 [] (s .count - 1),
+    third-store tags .fourth-flush s (s .count - 1),
+    third-store tags .fourth-step s v st (s .count - 1),
+    third-store tags .fourth-read s v st 0 [] (s .count - 1),
+  )
 
 third-of-last : (tags : Tags) (s : State) (v st : List ℕ) → crosses (s .layout) (entryOf (s .layout .width) st (s .count - 1) .sector) ≡ false
     → stepOf (inPhase s (WritingBack (s .count - 1) 2)) v st .answer ≡ refuse 1 []

@@ -13,7 +13,7 @@ use Rattle.octets.specs.Sectors.{sectorAt, putSector}
 use Rattle.octets.proofs.Parts.{part-add, length-patch, part-patch-same, part-patch-before, part-patch-after, getD-patch-other}
 use Rattle.octets.proofs.Sectors.{put-inside, sector-part, sector-put-same, sector-put-other}
 use Rattle.on_disk.specs.Geometry.{Apart, before, behind}
-use Rattle.on_disk.specs.Layout.{sectionSize, sectionAt, base, dataAt, tagSector, tagOffset, tagByte, crosses, firstPart, needed}
+use Rattle.on_disk.specs.Layout.{sectionSize, sectionAt, base, dataAt, tagSector, tagOffset, tagByte, crosses, firstPiece, needed}
 use Rattle.on_disk.specs.Section.{Entry}
 use Rattle.model.specs.Journal.{sectionOf}
 use Rattle.model.specs.Tag.{Tag, tagAt}
@@ -41,18 +41,18 @@ module _ (g : Layout) (R : Ranged g) (tag : Tag) (v : List ℕ) (room : needed g
   abbrev pub from : ℕ → ℕ
   from zero = 0
   from (suc zero) = 0
-  from (suc (suc h)) = firstPart g (e .sector)
+  from (suc (suc h)) = firstPiece g (e .sector)
 
   abbrev pub piece : ℕ → List ℕ
   piece zero = []
-  piece (suc zero) = take (firstPart g (e .sector)) (e .tag)
-  piece (suc (suc h)) = drop (firstPart g (e .sector)) (e .tag)
+  piece (suc zero) = take (firstPiece g (e .sector)) (e .tag)
+  piece (suc (suc h)) = drop (firstPiece g (e .sector)) (e .tag)
 
   pub piece-fits : (h : ℕ) → h < homeCount g e → from h + length (piece h) ≤ g .width
   piece-fits zero l = omega arith
-  piece-fits (suc zero) l = omega (arith, length-take (firstPart g (e .sector)) (e .tag))
+  piece-fits (suc zero) l = omega (arith, length-take (firstPiece g (e .sector)) (e .tag))
   piece-fits (suc (suc h)) l =
-      omega (arith, length-drop (firstPart g (e .sector)) (e .tag), crossing g R (e .sector) (home-crosses g e (omega arith)))
+      omega (arith, length-drop (firstPiece g (e .sector)) (e .tag), crossing g R (e .sector) (home-crosses g e (omega arith)))
 
   region-fits : (h : ℕ) → h < homeCount g e → tagByte g (e .sector) + from h + length (piece h) ≤ length v
   region-fits h l = omega (arith, piece-fits h l, tag-end g R (e .sector) low)
@@ -62,14 +62,14 @@ module _ (g : Layout) (R : Ranged g) (tag : Tag) (v : List ℕ) (room : needed g
   tag-store zero l =
       let q : tagSector g (e .sector) * 512 + tagOffset g (e .sector) ≡ tagByte g (e .sector) + 0 = omega (arith, tag-sector g R (e .sector)) in
       put-inside v (tagSector g (e .sector)) (tagOffset g (e .sector)) (piece 1)
-      (omega (arith, length-take (firstPart g (e .sector)) (e .tag), tag-offset g R (e .sector))) (omega (arith, tag-room g R (e .sector) low))
+      (omega (arith, length-take (firstPiece g (e .sector)) (e .tag), tag-offset g R (e .sector))) (omega (arith, tag-room g R (e .sector) low))
       ∙ ap (λ (x : ℕ). patch v x (piece 1)) q
   tag-store (suc h) l =
       let c : crosses g (e .sector) ≡ true = home-crosses g e (omega arith) in
-      let q : (tagSector g (e .sector) + 1) * 512 + 0 ≡ tagByte g (e .sector) + firstPart g (e .sector) =
+      let q : (tagSector g (e .sector) + 1) * 512 + 0 ≡ tagByte g (e .sector) + firstPiece g (e .sector) =
       omega (arith, tag-sector g R (e .sector), tag-offset g R (e .sector)) in
       put-inside v (tagSector g (e .sector) + 1) 0 (piece 2)
-      (omega (arith, length-drop (firstPart g (e .sector)) (e .tag), R .t .bound)) (omega (arith, next-room g R (e .sector) low c))
+      (omega (arith, length-drop (firstPiece g (e .sector)) (e .tag), R .t .bound)) (omega (arith, next-room g R (e .sector) low c))
       ∙ ap (λ (x : ℕ). patch v x (piece 2)) q
 
   pub home-length : (h : ℕ) → h < homeCount g e → length (made v (homeStore g v e h)) ≡ length v
@@ -125,16 +125,16 @@ module _ (g : Layout) (R : Ranged g) (tag : Tag) (v : List ℕ) (room : needed g
 
   -- the first store of a tag: its bytes up to the end of the sector; of a tag that does not cross all
   pub first-stands : crosses g (e .sector) ≡ true
-      → part (made v (homeStore g v e 1)) (tagByte g (e .sector)) (firstPart g (e .sector)) ≡ take (firstPart g (e .sector)) (e .tag)
+      → part (made v (homeStore g v e 1)) (tagByte g (e .sector)) (firstPiece g (e .sector)) ≡ take (firstPiece g (e .sector)) (e .tag)
   first-stands c =
       let q : tagByte g (e .sector) + 0 ≡ tagByte g (e .sector) = omega arith in
       let l : 1 < homeCount g e = home-some g e in
-      let n : firstPart g (e .sector) ≡ length (piece 1) = omega (arith, length-take (firstPart g (e .sector)) (e .tag), crossing g R (e .sector) c) in
-      ap (λ (x : List ℕ). part x (tagByte g (e .sector)) (firstPart g (e .sector))) (tag-store 0 l ∙ ap (λ (x : ℕ). patch v x (piece 1)) q)
-      ∙ part-patch-same v (tagByte g (e .sector)) (piece 1) (omega (arith, region-fits 1 l)) (firstPart g (e .sector)) n
+      let n : firstPiece g (e .sector) ≡ length (piece 1) = omega (arith, length-take (firstPiece g (e .sector)) (e .tag), crossing g R (e .sector) c) in
+      ap (λ (x : List ℕ). part x (tagByte g (e .sector)) (firstPiece g (e .sector))) (tag-store 0 l ∙ ap (λ (x : ℕ). patch v x (piece 1)) q)
+      ∙ part-patch-same v (tagByte g (e .sector)) (piece 1) (omega (arith, region-fits 1 l)) (firstPiece g (e .sector)) n
 
   whole-piece : crosses g (e .sector) ≡ false → piece 1 ≡ e .tag
-  whole-piece c = take-all (firstPart g (e .sector)) (e .tag) (omega (arith, not-crossing g R (e .sector) c))
+  whole-piece c = take-all (firstPiece g (e .sector)) (e .tag) (omega (arith, not-crossing g R (e .sector) c))
 
   pub tag-in-one : crosses g (e .sector) ≡ false → tagAt g (made v (homeStore g v e 1)) (e .sector) ≡ e .tag
   tag-in-one c =
@@ -144,25 +144,25 @@ module _ (g : Layout) (R : Ranged g) (tag : Tag) (v : List ℕ) (room : needed g
       ∙ part-patch-same v (tagByte g (e .sector)) (e .tag) (omega (arith, tag-end g R (e .sector) low)) (g .width) (sym sized)
 
   -- the second, where the first stands
-  pub tag-in-two : crosses g (e .sector) ≡ true → part v (tagByte g (e .sector)) (firstPart g (e .sector)) ≡ take (firstPart g (e .sector)) (e .tag)
+  pub tag-in-two : crosses g (e .sector) ≡ true → part v (tagByte g (e .sector)) (firstPiece g (e .sector)) ≡ take (firstPiece g (e .sector)) (e .tag)
       → tagAt g (made v (homeStore g v e 2)) (e .sector) ≡ e .tag
   tag-in-two c q =
       let l : 2 < homeCount g e = omega (arith, home-in-two g e c) in
       let k = crossing g R (e .sector) c in
-      let n : length (piece 2) ≡ g .width - firstPart g (e .sector) = omega (arith, length-drop (firstPart g (e .sector)) (e .tag)) in
-      let sum : g .width ≡ firstPart g (e .sector) + length (piece 2) = omega arith in
-      let front : part (made v (homeStore g v e 2)) (tagByte g (e .sector)) (firstPart g (e .sector)) ≡ take (firstPart g (e .sector)) (e .tag) =
-      ap (λ (x : List ℕ). part x (tagByte g (e .sector)) (firstPart g (e .sector))) (tag-store 1 l)
-      ∙ part-patch-before v (tagByte g (e .sector) + firstPart g (e .sector)) (piece 2) (region-fits 2 l) (tagByte g (e .sector)) (firstPart g (e .sector)) (omega arith)
+      let n : length (piece 2) ≡ g .width - firstPiece g (e .sector) = omega (arith, length-drop (firstPiece g (e .sector)) (e .tag)) in
+      let sum : g .width ≡ firstPiece g (e .sector) + length (piece 2) = omega arith in
+      let front : part (made v (homeStore g v e 2)) (tagByte g (e .sector)) (firstPiece g (e .sector)) ≡ take (firstPiece g (e .sector)) (e .tag) =
+      ap (λ (x : List ℕ). part x (tagByte g (e .sector)) (firstPiece g (e .sector))) (tag-store 1 l)
+      ∙ part-patch-before v (tagByte g (e .sector) + firstPiece g (e .sector)) (piece 2) (region-fits 2 l) (tagByte g (e .sector)) (firstPiece g (e .sector)) (omega arith)
       ∙ q in
-      let rest : part (made v (homeStore g v e 2)) (tagByte g (e .sector) + firstPart g (e .sector)) (length (piece 2)) ≡ piece 2 =
-      ap (λ (x : List ℕ). part x (tagByte g (e .sector) + firstPart g (e .sector)) (length (piece 2))) (tag-store 1 l)
-      ∙ part-patch-same v (tagByte g (e .sector) + firstPart g (e .sector)) (piece 2) (region-fits 2 l) (length (piece 2)) refl in
+      let rest : part (made v (homeStore g v e 2)) (tagByte g (e .sector) + firstPiece g (e .sector)) (length (piece 2)) ≡ piece 2 =
+      ap (λ (x : List ℕ). part x (tagByte g (e .sector) + firstPiece g (e .sector)) (length (piece 2))) (tag-store 1 l)
+      ∙ part-patch-same v (tagByte g (e .sector) + firstPiece g (e .sector)) (piece 2) (region-fits 2 l) (length (piece 2)) refl in
       ap (part (made v (homeStore g v e 2)) (tagByte g (e .sector))) sum
-      ∙ part-add (made v (homeStore g v e 2)) (tagByte g (e .sector)) (firstPart g (e .sector)) (length (piece 2))
-      ∙ ap (λ (x : List ℕ). x ++ part (made v (homeStore g v e 2)) (tagByte g (e .sector) + firstPart g (e .sector)) (length (piece 2))) front
-      ∙ ap (λ (x : List ℕ). take (firstPart g (e .sector)) (e .tag) ++ x) rest
-      ∙ take-append-drop (firstPart g (e .sector)) (e .tag)
+      ∙ part-add (made v (homeStore g v e 2)) (tagByte g (e .sector)) (firstPiece g (e .sector)) (length (piece 2))
+      ∙ ap (λ (x : List ℕ). x ++ part (made v (homeStore g v e 2)) (tagByte g (e .sector) + firstPiece g (e .sector)) (length (piece 2))) front
+      ∙ ap (λ (x : List ℕ). take (firstPiece g (e .sector)) (e .tag) ++ x) rest
+      ∙ take-append-drop (firstPiece g (e .sector)) (e .tag)
 
   pub home-front : (h : ℕ) → h < homeCount g e → front g (made v (homeStore g v e h)) ≡ front g v
   home-front h l = home-low h l (g .reserved * 512) ((base g - g .reserved) * 512) (omega arith)

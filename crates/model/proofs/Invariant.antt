@@ -9,7 +9,7 @@ use lib.ListN.{length, take, getD}
 use Rattle.octets.specs.Parts.{part}
 use Rattle.octets.specs.Sectors.{sectorAt}
 use Rattle.on_disk.specs.Superblock.{superblockOf, superblockAt}
-use Rattle.on_disk.specs.Layout.{perSector, layoutOk, entryCount, sectionSize, sectionAt, dataAt, tagByte, crosses, firstPart, needed}
+use Rattle.on_disk.specs.Layout.{perSector, layoutOk, entryCount, sectionSize, sectionAt, dataAt, tagByte, crosses, firstPiece, needed}
 use Rattle.on_disk.specs.Section.{Entry, unused, entryOf}
 use Rattle.model.specs.Journal.{sealed, sectionOf, greatestId, wholeIds, usedOf, replay}
 use Rattle.model.specs.Tag.{Tag, tagAt}
@@ -114,7 +114,7 @@ module _ (tag : Tag) (g : Layout) (v₀ : List ℕ) where
   DataHome v x = sectorAt v (dataAt g (x .sector)) ≡ x .bytes
 
   abbrev pub TagBegun : List ℕ → Write → Type 0
-  TagBegun v x = part v (tagByte g (x .sector)) (firstPart g (x .sector)) ≡ take (firstPart g (x .sector)) (tag (x .sector) (x .bytes))
+  TagBegun v x = part v (tagByte g (x .sector)) (firstPiece g (x .sector)) ≡ take (firstPiece g (x .sector)) (tag (x .sector) (x .bytes))
 
   abbrev pub Progress : List ℕ → Contents → List Write → ℕ → ℕ → Type 0
   Progress v c L i zero = Pass (g .provided) (Home g tag v) c L i

@@ -17,7 +17,7 @@ use Rattle.on_disk.specs.declared.Layout.{Layout}
 use Rattle.model.specs.declared.Phase.{Phase}
 use Rattle.model.specs.declared.Phase.the-variants.{Filling, Committing, WritingBack, Recovering}
 use Rattle.model.specs.declared.State.{State}
-use Rattle.on_disk.specs.Layout.{sectionSize, base, tagSector, tagOffset, firstPart, needed}
+use Rattle.on_disk.specs.Layout.{sectionSize, base, tagSector, tagOffset, firstPiece, needed}
 use Rattle.on_disk.specs.Section.{Entry}
 use Rattle.model.specs.Journal.{sectionFor, replay}
 use Rattle.model.specs.Store.{afterEffect, contentOf, homeCount, homeStore, storeOf, RecoveryStep, storing, recoveryStepAt}
@@ -99,13 +99,13 @@ module _ (s : State) (v st : List ℕ) where
             whole = whole;
           }
       home-placed (suc zero) l =
-          tag-placed (tagSector g (e .sector)) (tagOffset g (e .sector)) (take (firstPart g (e .sector)) (e .tag))
+          tag-placed (tagSector g (e .sector)) (tagOffset g (e .sector)) (take (firstPiece g (e .sector)) (e .tag))
           (tag-high g R (e .sector)) (tag-room g R (e .sector) low)
-          (omega (arith, length-take (firstPart g (e .sector)) (e .tag), tag-offset g R (e .sector)))
+          (omega (arith, length-take (firstPiece g (e .sector)) (e .tag), tag-offset g R (e .sector)))
       home-placed (suc (suc h)) l =
-          tag-placed (tagSector g (e .sector) + 1) 0 (drop (firstPart g (e .sector)) (e .tag))
+          tag-placed (tagSector g (e .sector) + 1) 0 (drop (firstPiece g (e .sector)) (e .tag))
           (omega (arith, tag-high g R (e .sector))) (omega (arith, next-room g R (e .sector) low (home-crosses g e (omega arith))))
-          (omega (arith, length-drop (firstPart g (e .sector)) (e .tag), R .t .bound))
+          (omega (arith, length-drop (firstPiece g (e .sector)) (e .tag), R .t .bound))
 
       bringing : (h : ℕ) → h < homeCount g e → (last : Bool) (p : Phase) (left : List ℕ) → Stores (homeStep s v st e h last p left)
       unfolding homeStep

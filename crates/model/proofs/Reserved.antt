@@ -15,7 +15,7 @@ use Rattle.on_disk.specs.declared.Layout.{Layout}
 use Rattle.model.specs.declared.Phase.{Phase}
 use Rattle.model.specs.declared.Phase.the-variants.{Filling, Committing, WritingBack, Recovering}
 use Rattle.model.specs.declared.State.{State}
-use Rattle.on_disk.specs.Layout.{mostSectors, sectionSize, sectionAt, base, dataAt, tagByte, tagSector, tagOffset, firstPart}
+use Rattle.on_disk.specs.Layout.{mostSectors, sectionSize, sectionAt, base, dataAt, tagByte, tagSector, tagOffset, firstPiece}
 use Rattle.on_disk.specs.Superblock.{superblockAt, layoutIn}
 use Rattle.on_disk.specs.Section.{Entry}
 use Rattle.octets.specs.Lists.{allBelow, firstBelow}
@@ -82,10 +82,10 @@ module _ (r : ℕ) (v w : List ℕ) (agree : AgreeFrom r v w) where
     home-same : (e : Entry) (h : ℕ) → homeStore g v e h ≡ homeStore g w e h
     home-same e zero = refl
     home-same e (suc zero) =
-        ap (λ (x : List ℕ). record { at = tagSector g (e .sector); content = patch x (tagOffset g (e .sector)) (take (firstPart g (e .sector)) (e .tag)) })
+        ap (λ (x : List ℕ). record { at = tagSector g (e .sector); content = patch x (tagOffset g (e .sector)) (take (firstPiece g (e .sector)) (e .tag)) })
         (part-same (tagSector g (e .sector) * 512) 512 (omega (arith, from)))
     home-same e (suc (suc h)) =
-        ap (λ (x : List ℕ). record { at = tagSector g (e .sector) + 1; content = patch x 0 (drop (firstPart g (e .sector)) (e .tag)) })
+        ap (λ (x : List ℕ). record { at = tagSector g (e .sector) + 1; content = patch x 0 (drop (firstPiece g (e .sector)) (e .tag)) })
         (part-same ((tagSector g (e .sector) + 1) * 512) 512 (omega (arith, from)))
 
   -- ---- the calls

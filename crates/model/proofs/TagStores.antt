@@ -1,12 +1,13 @@
 -- The stores of a tag: specs/TagStores.
 use Prim.Native.Nat.{ℕ, _+_, _-_, _*_, _/_, _%_, _≤_, _<_}
 use mathlib.Core.Bool.{Bool, true, false, not, _&&_}
-use mathlib.Core.List.{List, [], _++_}
+use mathlib.Core.List.{List, [], _∷_}
 use mathlib.Core.Path.{_≡_, refl, sym, ap, _∙_}
 use native.Mathlib.Decide.{decLt}
 use native.Mathlib.Omega.{arith}
 use lib.ListN.{length, take, drop, getD, length-take, length-drop, take-append-drop}
-use lib.Dec.{ltb}
+use lib.Dec.{leb, ltb, eqb}
+use borrow.Author.Tests.{lt-ltb, le-leb}
 use lib.Seq.{take-all}
 use Rattle.octets.specs.Answer.{refuse}
 use Rattle.octets.specs.Choice.{pick}
@@ -14,12 +15,12 @@ use Rattle.octets.specs.Parts.{part, patch}
 use Rattle.octets.specs.Sectors.{sectorAt}
 use Rattle.octets.proofs.Parts.{length-patch, patch-join}
 use Rattle.on_disk.specs.declared.Layout.{Layout}
-use Rattle.on_disk.specs.Layout.{dataAt, tagByte, tagSector, tagOffset, crosses, firstPart, needed}
+use Rattle.on_disk.specs.Layout.{entryCount, layoutOk, dataAt, tagByte, tagSector, crosses, firstPiece, needed}
 use Rattle.on_disk.specs.Section.{Entry, entryOf}
 use Rattle.on_disk.proofs.Addresses.{Ranged, ranged, tag-sector, tag-offset, not-crossing, crossing, data-room, tag-end}
 use Rattle.model.specs.declared.Phase.the-variants.{WritingBack}
 use Rattle.model.specs.declared.State.{State}
-use Rattle.model.specs.Tag.{Tags, tagAt}
+use Rattle.model.specs.Tag.{Tags}
 use Rattle.model.specs.Store.{made, homeCount, homeStore, homesMade}
 use Rattle.model.specs.State.{stateOk, stagingOk, stagedOk, sectorOk, volumeOk, isFilling, inPhase}
 use Rattle.model.specs.Write.{writeOf}
@@ -29,7 +30,9 @@ use Rattle.model.specs.NextStore.{nextStoreOf}
 use Rattle.model.specs.Read.{readOf}
 use Rattle.model.specs.TagStores.{BringsHome, TagByItsSectors, ThirdStore}
 use Rattle.model.proofs.Homes.{tag-store}
+use Rattle.model.proofs.FirstRule.{malformed-first}
 use Rattle.model.proofs.Plans.{Homing, inOne, inTwo, homing, home-in-one, home-in-two, home-some}
+use Rattle.model.proofs.States.{staged-in}
 use Rattle.model.proofs.Volumes.{part-bytes, getD-sector}
 
 -- ---- an entry comes home
@@ -47,10 +50,10 @@ module _ (g : Layout) (R : Ranged g) (v : List ℕ) (room : needed g * 512 ≤ l
   data-length = length-patch v (dataAt g (e .sector) * 512) (e .bytes) (omega (arith, data-room g R (e .sector) low))
 
   abbrev first : List ℕ
-  first = take (firstPart g (e .sector)) (e .tag)
+  first = take (firstPiece g (e .sector)) (e .tag)
 
   abbrev rest : List ℕ
-  rest = drop (firstPart g (e .sector)) (e .tag)
+  rest = drop (firstPiece g (e .sector)) (e .tag)
 
   one-made : homesMade g v e 2 ≡ patch data-made from first
   one-made =
@@ -61,18 +64,18 @@ module _ (g : Layout) (R : Ranged g) (v : List ℕ) (room : needed g * 512 ≤ l
   comes-home : Homing g e → homesMade g v e (homeCount g e) ≡ patch data-made from (e .tag)
   comes-home (inOne c n) =
       ap (homesMade g v e) n ∙ one-made
-      ∙ ap (patch data-made from) (take-all (firstPart g (e .sector)) (e .tag) (omega (arith, not-crossing g R (e .sector) c)))
+      ∙ ap (patch data-made from) (take-all (firstPiece g (e .sector)) (e .tag) (omega (arith, not-crossing g R (e .sector) c)))
   comes-home (inTwo c n) =
       let fits : from + length first + length rest ≤ length data-made =
-      omega (arith, data-length, tag-end g R (e .sector) low, length-take (firstPart g (e .sector)) (e .tag), length-drop (firstPart g (e .sector)) (e .tag)) in
+      omega (arith, data-length, tag-end g R (e .sector) low, length-take (firstPiece g (e .sector)) (e .tag), length-drop (firstPiece g (e .sector)) (e .tag)) in
       let long : length (patch data-made from first) ≡ length data-made = length-patch data-made from first (omega arith) in
-      let size : from + firstPart g (e .sector) ≡ from + length first = omega (arith, length-take (firstPart g (e .sector)) (e .tag), crossing g R (e .sector) c) in
+      let size : from + firstPiece g (e .sector) ≡ from + length first = omega (arith, length-take (firstPiece g (e .sector)) (e .tag), crossing g R (e .sector) c) in
       ap (homesMade g v e) n
       ∙ ap (λ (x : List ℕ). made x (homeStore g x e 2)) one-made
       ∙ tag-store g R (λ s b. []) (patch data-made from first) (omega (arith, data-length, long)) e low whole sized 1 (omega arith)
       ∙ ap (λ (x : ℕ). patch (patch data-made from first) x rest) size
       ∙ patch-join data-made from first rest fits
-      ∙ ap (patch data-made from) (take-append-drop (firstPart g (e .sector)) (e .tag))
+      ∙ ap (patch data-made from) (take-append-drop (firstPiece g (e .sector)) (e .tag))
 
 pub brings-home : BringsHome
 brings-home g ok v room e low whole sized = comes-home g (ranged g ok) v room e (omega arith) whole sized (homing g e)
@@ -166,6 +169,24 @@ sound-third : (s : State) (i : ℕ) → stateOk (inPhase s (WritingBack i 2)) �
 unfolding stateOk
 sound-third s i = refl
 
+-- an entry that is not below P and has the store
+step-beyond : (s : State) (v st : List ℕ) (i : ℕ) → stateOk (inPhase s (WritingBack i 2)) ≡ true → volumeOk (inPhase s (WritingBack i 2)) v ≡ true
+    → stagingOk (s .layout) st ≡ true → crosses (s .layout) (entryOf (s .layout .width) st i .sector) ≡ true
+    → s .layout .provided ≤ entryOf (s .layout .width) st i .sector → stepOf (inPhase s (WritingBack i 2)) v st .answer ≡ refuse 6 (i ∷ [])
+unfolding stepOf
+step-beyond s v st i a b c x l =
+    let three : 2 < homeCount (s .layout) (entryOf (s .layout .width) st i) = omega (arith, home-in-two (s .layout) (entryOf (s .layout .width) st i) x) in
+    let staged : stagedOk (inPhase s (WritingBack i 2)) st ≡ true =
+    staged-in (inPhase s (WritingBack i 2)) st (WritingBack i 2) refl c (lt-ltb 2 (homeCount (s .layout) (entryOf (s .layout .width) st i)) three) in
+    rw (a, b, staged, le-leb (s .layout .provided) (entryOf (s .layout .width) st i .sector) l)
+
+-- no state has a fourth
+unsound-fourth : (s : State) (i : ℕ) → stateOk (inPhase s (WritingBack i 3)) ≡ false
+unfolding stateOk
+unsound-fourth s i =
+    and-false (layoutOk (s .layout)) (leb (s .count) (entryCount (s .layout .width))) (not (eqb (s .id) 0) && (ltb i (s .count) && false))
+    (and-false (not (eqb (s .id) 0)) (ltb i (s .count)) false refl)
+
 pub third-store : (tags : Tags) → ThirdStore tags
 third-store tags =
     record {
@@ -179,4 +200,9 @@ third-store tags =
       step = λ s v st i alone. step-refused s v st i alone;
       next = λ s v st out i alone. next-refused s v st i alone out;
       read = λ s v st n loan i alone. read-refused s v st i alone tags n loan;
+      beyond = step-beyond;
+      fourth-write = λ s st n bytes i. malformed-first tags .write (inPhase s (WritingBack i 3)) st n bytes (rw (unsound-fourth s i));
+      fourth-flush = λ s i. malformed-first tags .flush (inPhase s (WritingBack i 3)) (unsound-fourth s i);
+      fourth-step = λ s v st i. malformed-first tags .step (inPhase s (WritingBack i 3)) v st (rw (unsound-fourth s i));
+      fourth-read = λ s v st n loan i. malformed-first tags .read (inPhase s (WritingBack i 3)) v st n loan (rw (unsound-fourth s i));
     }

@@ -4,7 +4,7 @@
 -- stagedEntry s st i : entry i of the batch
 -- commitStep ..      : a step in committing: sectors 0 to M − 1 of the section for the state's id, in order (R44)
 -- homeStep ..        : store h of the entry e is made; after the last of all the volume is filling and staging is left, else the phase p is next
--- writeBackStep ..   : a step in writing back: of each entry in order the data, then the tag (R46); after the last, staging is an empty section (R47)
+-- writeBackStep ..   : a step in writing back: of each entry in order the data, then the tag (R46, R116); after the last, staging is an empty section (R47)
 -- recoverStep ..     : a step in recovering: the replay, in order (R48)
 use Prim.Native.Nat.{ℕ, _+_}
 use mathlib.Core.Bool.{Bool, _&&_}

@@ -19,7 +19,7 @@ use Rattle.octets.specs.Choice.{pick}
 use Rattle.octets.specs.Parts.{patch}
 use Rattle.octets.specs.Sectors.{sectorAt, putSector}
 use Rattle.on_disk.specs.declared.Layout.{Layout}
-use Rattle.on_disk.specs.Layout.{dataAt, tagSector, tagOffset, crosses, firstPart}
+use Rattle.on_disk.specs.Layout.{dataAt, tagSector, tagOffset, crosses, firstPiece}
 use Rattle.on_disk.specs.Section.{Entry}
 use Rattle.octets.specs.Tables.{tabulate}
 use Rattle.model.specs.Journal.{Replayed, replay}
@@ -55,12 +55,12 @@ homeStore g v e zero = record { at = dataAt g (e .sector); content = e .bytes }
 homeStore g v e (suc zero) =
     record {
       at = tagSector g (e .sector);
-      content = patch (sectorAt v (tagSector g (e .sector))) (tagOffset g (e .sector)) (take (firstPart g (e .sector)) (e .tag));
+      content = patch (sectorAt v (tagSector g (e .sector))) (tagOffset g (e .sector)) (take (firstPiece g (e .sector)) (e .tag));
     }
 homeStore g v e (suc (suc h)) =
     record {
       at = tagSector g (e .sector) + 1;
-      content = patch (sectorAt v (tagSector g (e .sector) + 1)) 0 (drop (firstPart g (e .sector)) (e .tag));
+      content = patch (sectorAt v (tagSector g (e .sector) + 1)) 0 (drop (firstPiece g (e .sector)) (e .tag));
     }
 
 abbrev pub homesMade : Layout → List ℕ → Entry → ℕ → List ℕ

@@ -3,10 +3,11 @@
 -- BringsHome      : the stores of an entry, made in order, replace its data sector and the bytes of its tag, and no other byte (R46, R116)
 -- TagByItsSectors : volumes that agree on the sectors in which a tag lies agree on the tag
 -- ThirdStore tags : R118, of the state s with entry i being written back: write and flush take its store 2 as they take its store 0, whatever staging holds;
---                   step, next_store and read refuse it where the staged entry's tag does not cross
+--                   step, next_store and read refuse it where the staged entry's tag does not cross; where it crosses, and the entry is not below P, a step
+--                   gives 6; a fourth store is refused by all
 use Prim.Native.Nat.{ℕ, _+_, _*_, _≤_, _<_}
 use mathlib.Core.Bool.{true, false}
-use mathlib.Core.List.{List, []}
+use mathlib.Core.List.{List, [], _∷_}
 use mathlib.Core.Path.{_≡_}
 use lib.ListN.{length}
 use Rattle.octets.specs.Answer.{refuse}
@@ -19,7 +20,7 @@ use Rattle.model.specs.declared.Phase.the-variants.{WritingBack}
 use Rattle.model.specs.declared.State.{State}
 use Rattle.model.specs.Tag.{Tags, tagAt}
 use Rattle.model.specs.Store.{homeCount, homesMade}
-use Rattle.model.specs.State.{inPhase}
+use Rattle.model.specs.State.{stateOk, volumeOk, stagingOk, inPhase}
 use Rattle.model.specs.Write.{writeOf}
 use Rattle.model.specs.Flush.{flushOf}
 use Rattle.model.specs.Step.{stepOf}
@@ -49,3 +50,11 @@ pub record ThirdStore (tags : Tags) : Type 0 where
       → nextStoreOf (inPhase s (WritingBack i 2)) v st out .answer ≡ refuse 1 []
   pub read : (s : State) (v st : List ℕ) (n : ℕ) (loan : List ℕ) (i : ℕ) → crosses (s .layout) (entryOf (s .layout .width) st i .sector) ≡ false
       → readOf tags (inPhase s (WritingBack i 2)) v st n loan .answer ≡ refuse 1 []
+  pub beyond : (s : State) (v st : List ℕ) (i : ℕ) → stateOk (inPhase s (WritingBack i 2)) ≡ true → volumeOk (inPhase s (WritingBack i 2)) v ≡ true
+      → stagingOk (s .layout) st ≡ true → crosses (s .layout) (entryOf (s .layout .width) st i .sector) ≡ true
+      → s .layout .provided ≤ entryOf (s .layout .width) st i .sector
+      → stepOf (inPhase s (WritingBack i 2)) v st .answer ≡ refuse 6 (i ∷ [])
+  pub fourth-write : (s : State) (st : List ℕ) (n : ℕ) (bytes : List ℕ) (i : ℕ) → writeOf tags (inPhase s (WritingBack i 3)) st n bytes .answer ≡ refuse 1 []
+  pub fourth-flush : (s : State) (i : ℕ) → flushOf (inPhase s (WritingBack i 3)) .answer ≡ refuse 1 []
+  pub fourth-step : (s : State) (v st : List ℕ) (i : ℕ) → stepOf (inPhase s (WritingBack i 3)) v st .answer ≡ refuse 1 []
+  pub fourth-read : (s : State) (v st : List ℕ) (n : ℕ) (loan : List ℕ) (i : ℕ) → readOf tags (inPhase s (WritingBack i 3)) v st n loan .answer ≡ refuse 1 []

@@ -12,7 +12,7 @@
 -- runAt g s        : the first sector of the run that has logical sector s
 -- dataAt g s       : where logical sector s lies
 -- tagByte g s      : the byte of the volume at which the tag of s starts: byte tagOffset g s of sector tagSector g s
--- crosses g s      : whether the tag of s goes on in the next sector; firstPart g s: the bytes from its start to the end of its first sector
+-- crosses g s      : whether the tag of s goes on in the next sector; firstPiece g s: the bytes from its start to the end of its first sector
 -- needed g         : the sectors that the layout needs
 -- layoutOk g       : whether every parameter is in range
 use Prim.Native.Nat.{ℕ, _+_, _-_, _*_, _/_, _%_, _^_}
@@ -107,8 +107,8 @@ tagOffset g s = tagStart g s % sectorSize
 abbrev pub crosses : Layout → ℕ → Bool
 crosses g s = ltb sectorSize (tagOffset g s + g .width)
 
-abbrev pub firstPart : Layout → ℕ → ℕ
-firstPart g s = sectorSize - tagOffset g s
+abbrev pub firstPiece : Layout → ℕ → ℕ
+firstPiece g s = sectorSize - tagOffset g s
 
 -- R18: the last run ends with the last data sector
 abbrev pub needed : Layout → ℕ

@@ -15,7 +15,7 @@ use Rattle.octets.proofs.Numbers.{length-le}
 use Rattle.octets.proofs.Parts.{length-part, part-all, part-patch-same, patch-all, patch-join}
 use Rattle.octets.proofs.Sectors.{put-inside}
 use Rattle.on_disk.specs.declared.Layout.{Layout}
-use Rattle.on_disk.specs.Layout.{entryCount, sectionSize, dataAt, tagByte, tagSector, tagOffset, crosses, firstPart, needed, layoutOk}
+use Rattle.on_disk.specs.Layout.{entryCount, sectionSize, dataAt, tagByte, tagSector, tagOffset, crosses, firstPiece, needed, layoutOk}
 use Rattle.on_disk.specs.Section.{Entry, entryOf}
 use Rattle.model.specs.Journal.{sealed}
 use Rattle.model.specs.Store.{homeCount, homeStore}
@@ -47,7 +47,7 @@ module _ (g : Layout) (st out : List ℕ) (j id : ℕ) (room : (j + 1) * 512 ≤
 
 -- the parts of a tag, as the code computes them
 module _ (g : Layout) (ok : layoutOk g ≡ true) (n b : ℕ) (eb : b ≡ tagByte g n) where
-  pub first-size : 512 - b % 512 ≡ firstPart g n
+  pub first-size : 512 - b % 512 ≡ firstPiece g n
   first-size = omega (arith, tag-sector g (ranged g ok) n, tag-offset g (ranged g ok) n)
 
   pub part-behind-first : (h : ℕ) → h ≢ 1 → record { from = 512 - b % 512; byte = b + (512 - b % 512); size = g .width - (512 - b % 512) } ≡ tagPieceOf g n h
@@ -90,13 +90,13 @@ module _ (g : Layout) (ok : layoutOk g ≡ true) (v : List ℕ) (e : Entry) (low
   begins-offset = omega (arith, tag-sector g R n, tag-offset g R n)
 
   -- and where it goes on
-  goes-on-sector : (tagByte g n + firstPart g n) / 512 ≡ tagSector g n + 1
+  goes-on-sector : (tagByte g n + firstPiece g n) / 512 ≡ tagSector g n + 1
   goes-on-sector = omega (arith, tag-sector g R n, tag-offset g R n)
 
-  goes-on-offset : (tagByte g n + firstPart g n) % 512 ≡ 0
+  goes-on-offset : (tagByte g n + firstPiece g n) % 512 ≡ 0
   goes-on-offset = omega (arith, tag-sector g R n, tag-offset g R n)
 
-  first-part : (size : ℕ) → size + tagOffset g n ≤ 512 → size ≤ g .width → part (e .tag) 0 size ≡ take (firstPart g n) (e .tag)
+  first-part : (size : ℕ) → size + tagOffset g n ≤ 512 → size ≤ g .width → part (e .tag) 0 size ≡ take (firstPiece g n) (e .tag)
       → TagPieceFor g v e 1 (record { from = 0; byte = tagByte g n; size = size })
   first-part size fits small is =
       record {
@@ -108,10 +108,10 @@ module _ (g : Layout) (ok : layoutOk g ≡ true) (v : List ℕ) (e : Entry) (low
       }
 
   rest-part : (h : ℕ) → crosses g n ≡ true
-      → TagPieceFor g v e (suc (suc h)) (record { from = firstPart g n; byte = tagByte g n + firstPart g n; size = g .width - firstPart g n })
+      → TagPieceFor g v e (suc (suc h)) (record { from = firstPiece g n; byte = tagByte g n + firstPiece g n; size = g .width - firstPiece g n })
   rest-part h c =
-      let rest : part (e .tag) (firstPart g n) (g .width - firstPart g n) ≡ drop (firstPart g n) (e .tag) =
-      take-all (g .width - firstPart g n) (drop (firstPart g n) (e .tag)) (omega (arith, length-drop (firstPart g n) (e .tag))) in
+      let rest : part (e .tag) (firstPiece g n) (g .width - firstPiece g n) ≡ drop (firstPiece g n) (e .tag) =
+      take-all (g .width - firstPiece g n) (drop (firstPiece g n) (e .tag)) (omega (arith, length-drop (firstPiece g n) (e .tag))) in
       record {
         room = omega (arith, goes-on-sector, next-room g R n low c);
         inside = omega (arith, goes-on-offset, width-high g ok);
@@ -128,8 +128,8 @@ module _ (g : Layout) (ok : layoutOk g ≡ true) (v : List ℕ) (e : Entry) (low
       go (inOne c m) =
           let fits = not-crossing g R n c in
           rw c (first-part (g .width) (omega arith) (omega arith)
-          (part-all (e .tag) (g .width) sized ∙ sym (take-all (firstPart g n) (e .tag) (omega arith))))
-      go (inTwo c m) = rw c (first-part (firstPart g n) (omega (arith, tag-offset g R n)) (omega (arith, crossing g R n c, tag-offset g R n)) refl)
+          (part-all (e .tag) (g .width) sized ∙ sym (take-all (firstPiece g n) (e .tag) (omega arith))))
+      go (inTwo c m) = rw c (first-part (firstPiece g n) (omega (arith, tag-offset g R n)) (omega (arith, crossing g R n c, tag-offset g R n)) refl)
   tag-piece-for (suc (suc h)) z l = rw (ne-eqb (suc (suc h)) 1 (λ q. omega arith)) (rest-part h (home-crosses g e (omega arith)))
 
 -- the part of the tag that is stored, as the code finds it

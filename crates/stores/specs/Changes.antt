@@ -1,4 +1,4 @@
--- The bytes that a store changes: R46, of a tag's sector that tag alone.
+-- The bytes that a store changes: R46, R116, of a tag's store the bytes of that tag which its sector has.
 --
 -- Changes v x p c : the part p has every byte that the store x changes on the volume v; they become the first ones of c
 use Prim.Native.Nat.{ℕ, _+_, _/_, _≤_}

@@ -69,7 +69,7 @@ pub(crate) fn next_store(
 }
 
 // The bytes of the volume that the store which x names changes, of an entry of the logical sector `sector`: they go to the front of `content`. To store
-// them leaves the volume that the store does, and moves a tag alone where that moves the sector with it.
+// them leaves the volume that the store does, and moves the tag's bytes alone where that moves the sector with them.
 pub fn replayed_part(
     v: &[u8],
     g: Layout,

@@ -1,6 +1,4 @@
-use Prim.Native.Nat.{ℕ, _<_}
 use mathlib.Core.Path.{sym, _∙_}
-use lib.Dec.{ltb}
 use borrow.Author.Tests.{not-true, not-false}
 use borrow.Author.Needs.{needs}
 use Rattle.model.proofs.States.{state-layout, state-writing-back, staging-length, staged-unfit, staged-fit}
