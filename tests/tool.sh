@@ -38,6 +38,15 @@ done
 gaffreel format "$work/image" --tag-size 16 --run 8 --sections 3 --sectors 24 --reserved 1
 gaffreel drill "$work/image" --reserved 1 --batches 5 --writes 6
 
-# Three tags lie across two sectors: those of 17, 34 and 51.
-gaffreel format "$work/crossing" --tag-size 30 --run 64 --sections 2 --sectors 60
-gaffreel drill "$work/crossing" --batches 5 --writes 24 --recovery-cuts 40
+# Three tags of 30 bytes lie across two sectors: those of 17, 34 and 51. None of 32 bytes does, and the same history has fewer stores.
+for tag_size in 30 32; do
+    gaffreel format "$work/crossing-$tag_size" --tag-size "$tag_size" --run 64 --sections 2 --sectors 60
+    gaffreel drill "$work/crossing-$tag_size" --batches 5 --writes 24 --recovery-cuts 40 | tee "$work/drill-$tag_size"
+done
+stores() {
+    awk '$1 == "stores" { print $2 }' "$work/drill-$1"
+}
+if (($(stores 30) <= $(stores 32))); then
+    echo "the drill wrote no tag that lies across two sectors"
+    exit 1
+fi

@@ -137,18 +137,20 @@ static void write_entry_back(size_t entry) {
     assert(flush_batch(&fit) == (stores < 3 ? GAFFREEL_NOT_NOW : GAFFREEL_LENGTH_OR_LIMIT));
 }
 
-/* The first, the middle and the last entry, and one with three stores if there is one. */
-static void writing_back(void) {
+/* The first, the middle and the last entry, and one with three stores, which must be there on a volume of begin_across. */
+static void writing_back(int across) {
+    int found = 0;
     size_t i;
     for (i = 0; i < SPREAD; i++) {
         write_entry_back(spread(entry_count(), i));
     }
-    for (i = 0; i < entry_count(); i++) {
-        if (stores_of(number_at(entry_at(fit.staging.at, i), 0)) == 3) {
+    for (i = 0; i < entry_count() && !found; i++) {
+        found = stores_of(number_at(entry_at(fit.staging.at, i), 0)) == 3;
+        if (found) {
             write_entry_back(i);
-            break;
         }
     }
+    assert(found || !across);
     put_phase(GAFFREEL_VOLUME_WRITING_BACK, entry_count(), 0);
     step_each_way(GAFFREEL_LENGTH_OR_LIMIT);
 }
@@ -261,8 +263,8 @@ static void other_keys(void) {
     }
 }
 
-/* On a volume that is open and fresh. */
-static void every_phase(void) {
+/* On a volume that is open and fresh, of begin_across or not. */
+static void every_phase(int across) {
     size_t i;
     for (i = 0; i < fit.sections; i++) {
         commit_batch();
@@ -275,7 +277,7 @@ static void every_phase(void) {
     }
     filling();
     committing();
-    writing_back();
+    writing_back(across);
 }
 
 void call_volume_phases(void) {
@@ -286,12 +288,13 @@ void call_volume_phases(void) {
     for (i = 0; i < WIDTHS * sizeof sections / sizeof *sections; i++) {
         size_t key_lengths[] = {0, taken_keys[i % (sizeof taken_keys / sizeof *taken_keys)]};
         for (j = 0; j < sizeof key_lengths / sizeof *key_lengths; j++) {
-            if (widths[i % WIDTHS] > 0) {
-                begin(widths[i % WIDTHS], sections[i / WIDTHS], key_lengths[j]);
-            } else {
+            int across = widths[i % WIDTHS] == 0;
+            if (across) {
                 begin_across(sections[i / WIDTHS], key_lengths[j]);
+            } else {
+                begin(widths[i % WIDTHS], sections[i / WIDTHS], key_lengths[j]);
             }
-            every_phase();
+            every_phase(across);
         }
     }
 }

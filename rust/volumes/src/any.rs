@@ -1,6 +1,6 @@
 //! Volumes, staging, states and arguments of any kind.
 
-use crate::{empty_staging, formatted, geometry, padding_place};
+use crate::{crosses, empty_staging, formatted, geometry, padding_place};
 use crate::{put_id, put_section, section, Entry, UNUSED};
 use random::Random;
 use reference::volume::{Geometry, Layout, Phase, State};
@@ -42,15 +42,29 @@ pub fn any_tag_size(random: &mut Random) -> u64 {
     random.length(1..=32) as u64
 }
 
-/// The layout with such runs, tags and so many sectors that a tag lies across two sectors; not many more.
+/// The layout with such runs, tags and so many sectors that a tag lies across two sectors; not many more. In most it is the first
+/// tag that does, in some a later one of the first run or one of the second run.
 pub fn with_tag_across_sectors(random: &mut Random, layout: Layout) -> Layout {
-    let tag_size = random.length(17..=31) as u64;
+    let shorter = random.pick(&[3, 5, 6, 7, 9, 10, 11, 12, 13, 14, 15]);
+    let longer = random.length(17..=31) as u64;
+    let tag_size = random.pick(&[shorter, longer, longer, longer]);
     // None of these sizes divides 512, so the tag that ends behind the first sector of the tag area begins in it.
     let first = 512 / tag_size;
-    Layout {
-        log2_run: random.pick(&[5, 5, 6]),
+    let shortest = u64::from(first.ilog2()) + 1;
+    let layout = Layout {
+        log2_run: random.pick(&[shortest, shortest, shortest + 1]).min(8),
         tag_size,
-        provided: first + 1 + random.number() % 8,
+        provided: 1,
+        ..layout
+    };
+    let geometry = geometry(&layout);
+    let two_runs = (2 << shortest).min(256);
+    let across: Vec<u64> = (first..two_runs)
+        .filter(|sector| crosses(&geometry, *sector))
+        .collect();
+    let any = random.pick(&across);
+    Layout {
+        provided: random.pick(&[first, first, any]) + 1 + random.number() % 8,
         ..layout
     }
 }
@@ -97,9 +111,9 @@ pub fn any_sector(random: &mut Random, layout: &Layout) -> u64 {
     }
 }
 
-/// A number in the run that this one is in; where tags lie across two sectors, that of one of them.
+/// A number in the run that this one is in. Where the tags take more than one sector, its tag has the first byte of one that is not
+/// the first; so it lies across two, unless it begins with that byte.
 pub fn across_sectors(random: &mut Random, geometry: &Geometry, sector: u64) -> u64 {
-    // The tag that has the first byte of a sector of the tag area, not of the first one.
     let boundaries = (geometry.run * geometry.tag_size - 1) / 512;
     let boundary = 512 * random.length(boundaries.min(1)..=boundaries) as u64;
     let place = boundary / geometry.tag_size as u64;
@@ -211,7 +225,7 @@ pub fn any_volume(random: &mut Random, layout: &Layout) -> Vec<u8> {
             random.bytes(sectors * 512)
         }
         2 => vec![0; random.length(0..=300) * 512],
-        _ if layout.in_range() && layout.provided < 100 && layout.sections < 10 => {
+        _ if layout.in_range() && layout.provided < 300 && layout.sections < 10 => {
             with_journal(random, layout)
         }
         _ => vec![0; 16 * 512],

@@ -8,7 +8,7 @@ use gaffreel::Refusal;
 use random::{cases, count_compared, Random, Reached};
 use reference::volume::ledger::{Event, Ledger, Record};
 use reference::volume::{Layout, TagRule};
-use volumes::any::small_layout;
+use volumes::any::{small_layout, with_tag_across_sectors};
 use volumes::keyed::any_key;
 use volumes::{formatted, formatted_by, geometry, put_section, section, Entry};
 
@@ -205,6 +205,10 @@ type Key = fn(&mut Random) -> Option<Vec<u8>>;
 
 fn batches(random: &mut Random, reached: &mut Reached<(Kind, Outcome)>, key: Key) {
     let layout = small_layout(random);
+    let layout = match random.number() % 2 {
+        0 => with_tag_across_sectors(random, layout),
+        _ => layout,
+    };
     let key = key(random);
     let rule = key.as_deref().map_or(TagRule::Digest, TagRule::Hmac);
     let mapped = Mapped::new(&formatted_by(rule, &layout, 0));

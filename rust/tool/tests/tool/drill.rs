@@ -63,14 +63,27 @@ fn volumes_with_a_past() {
     }
 }
 
-/// Tags that lie across two sectors: each cut between the two stores of one is survived, in a batch and in its recovery.
+/// Tags that lie across two sectors: each cut between the two stores of one is survived, in a batch and in its recovery. The same
+/// history with tags of 32 bytes, none of which does, has fewer stores, and its recoveries have fewer.
 #[test]
 fn tags_across_two_sectors() {
     let entries = [16, 17, 18].map(|sector| Entry::new(sector, 1));
-    let volume = with_sections(&ACROSS_SECTORS, &[(0, 1, &entries)]);
-    let text = survives(&volume, &["--batches=6", "--writes=12"]);
-    let (stores, cuts) = (number(&text, "stores"), number(&text, "cuts"));
-    assert!(stores > 6 * 88 && cuts == stores + 1, "{text}");
+    let drill = |tag_size| {
+        let layout = Layout {
+            tag_size,
+            ..ACROSS_SECTORS
+        };
+        let volume = with_sections(&layout, &[(0, 1, &entries)]);
+        let text = survives(&volume, &["--batches=6", "--writes=12"]);
+        let (stores, cuts) = (number(&text, "stores"), number(&text, "cuts"));
+        assert!(stores > 6 * 88 && cuts == stores + 1, "{text}");
+        (stores, number(&text, "recoveries cut"))
+    };
+    let (across, within) = (drill(ACROSS_SECTORS.tag_size), drill(32));
+    assert!(
+        across.0 > within.0 && across.1 > within.1,
+        "{across:?} {within:?}"
+    );
     let fresh = volumes::formatted(&WARD, 0);
     survives(&fresh, &["--batches=2", "--writes=6"]);
 }
