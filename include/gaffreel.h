@@ -490,7 +490,7 @@ uint32_t gaffreel_volume_verify(const uint8_t *state, size_t state_length, const
  *   - A wrong key, or a call without one, shows only where a tag is tested and differs, as GAFFREEL_TAG_MISMATCH: at open for an
  *     entry that is to be replayed, at read for a sector that is not in the batch, at verify for any. It cannot be told from
  *     damage. An open with nothing to replay takes any key; a read behind it, of a sector that is known to be good, tells the
- *     right one, but for one key in 256^T; where tags are short, so many reads more.
+ *     right one: another key passes it once in 256^T times, so that short tags need reads of several sectors.
  *   - A write under a wrong key, or without one, is not noticed: its batch is committed and acknowledged with tags of that key.
  *     Under the right key its sectors are then refused until they are written again, and every open is as long as the
  *     batch stands whole in the journal.

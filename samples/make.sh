@@ -8,7 +8,7 @@
 #   two_bad_sectors  two sectors written; then a byte of sector 3's data and a byte of sector 12's tag damaged, which no replay mends
 #   keyed            as replay, with the key in keyed.key; the bench program has no key, and finds a tag in the journal that does not fit
 #   keyed_fresh      as format leaves it with that key; without the key, no sector's tag fits
-#   ward             a ward card: T 20, N 8, S 1, P 8; 128 sectors. Three sectors written, and a power cut after the 104th store, the last of the commit
+#   tag_20           tags of 20 bytes: T 20, N 8, S 1, P 8; 128 sectors. Three sectors written, and a power cut after the 104th store, the last of the commit
 #   crossing         a tag across two sectors, that of sector 17: T 30, N 32, S 1, P 24; 128 sectors. Sectors 16 to 18 written, and a power cut four stores
 #                    after the last of the commit: data and tag of sector 16 are in their place, and of sector 17 the data and the first two bytes of the tag
 set -euo pipefail
@@ -45,8 +45,8 @@ damage() {
     cp keyed_fresh.img keyed.img
     stock a 3 | gaffreel write keyed.img 5 --cut-after 88 --key-file "$key"
 
-    gaffreel format ward.img --tag-size 20 --run 8 --sectors 8
-    stock a 3 | gaffreel write ward.img 2 --cut-after 104
+    gaffreel format tag_20.img --tag-size 20 --run 8 --sectors 8
+    stock a 3 | gaffreel write tag_20.img 2 --cut-after 104
 
     gaffreel format crossing.img --tag-size 30 --run 32 --sectors 24
     stock a 3 | gaffreel write crossing.img 16 --cut-after $((88 + 4))

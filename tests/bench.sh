@@ -89,10 +89,10 @@ refused 10 ids torn $((95 * 512 + 504)) '\377\377\377\377\377\377\377\377'
 refused 6 entry replay $((8 * 512)) '\020'
 refused 7 entry_tag replay $((8 * 512 + 48 + 16)) 'x'
 # The last byte of a tag of 20 bytes, and of 30; what stands behind a tag in its entry is ignored.
-refused 7 ward_tag ward $((8 * 512 + 16 + 19)) 'x'
+refused 7 tag_of_20 tag_20 $((8 * 512 + 16 + 19)) 'x'
 refused 7 crossing_tag crossing $((8 * 512 + 48 + 16 + 29)) 'x'
-changed behind_ward_tag ward $((8 * 512 + 16 + 20)) 'xxxx'
-prints "$work/behind_ward_tag.img" samples/ward.txt
+changed behind_tag_of_20 tag_20 $((8 * 512 + 16 + 20)) 'xxxx'
+prints "$work/behind_tag_of_20.img" samples/tag_20.txt
 changed behind_crossing_tag crossing $((8 * 512 + 48 + 16 + 30)) 'xx'
 prints "$work/behind_crossing_tag.img" samples/crossing.txt
 # Damage to either part of the tag of sector 17, on a fresh volume: no replay mends it.

@@ -1,5 +1,5 @@
 /*
- * The volume's calls with tags of every size: batches and sections; a ward card (T 20, N 8, S 1, P 8); and a tag that lies across two
+ * The volume's calls with tags of every size: batches and sections; tags of 20 bytes (T 20, N 8, S 1, P 8); and a tag that lies across two
  * sectors, that of sector 17 (T 30, N 32, S 1, P 24), its stores, a cut after each of them, its damage, and the states that name a third
  * store. Also compiled as C++.
  */
@@ -112,7 +112,7 @@ static void test_batches(void) {
 }
 
 /* "T 20 has E 96 and M 104": 128 sectors, and 104 + 2 stores for one write. */
-static void test_ward(void) {
+static void test_tags_of_20(void) {
     begin(3, 20, 8, 128);
     assert(staging_length == 104 * SECTOR);
     assert(write_sector(7) == GAFFREEL_DONE && flush() == GAFFREEL_DONE);
@@ -264,7 +264,7 @@ static void test_padding(void) {
 
 int main(void) {
     test_batches();
-    test_ward();
+    test_tags_of_20();
     test_stores();
     test_cuts();
     test_damage();

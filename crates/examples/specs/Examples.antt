@@ -47,8 +47,8 @@ abbrev journalled : ℕ → Layout
 journalled s = record { reserved = 0; shift = 4; width = 32; sections = s; provided = 16 }
 
 -- tags of 20 bytes on runs of 8 sectors
-abbrev ward : Layout
-ward = record { reserved = 0; shift = 3; width = 20; sections = 1; provided = 8 }
+abbrev shortRuns : Layout
+shortRuns = record { reserved = 0; shift = 3; width = 20; sections = 1; provided = 8 }
 
 -- tags of 30 bytes on runs of 32 sectors, of which 24 are provided
 abbrev crossing : Layout
@@ -108,7 +108,7 @@ table =
     -- how T 0 and T 33 are refused
     record { given = refusedWidth 0 ++ refusedWidth 33; paper = 2 ∷ 2 ∷ [] } ∷
     -- T 20, N 8, P 8, and T 30, N 32, P 24: the sectors needed, which the bench program takes
-    record { given = needed ward ∷ needed crossing ∷ []; paper = 128 ∷ 128 ∷ [] } ∷
+    record { given = needed shortRuns ∷ needed crossing ∷ []; paper = 128 ∷ 128 ∷ [] } ∷
     -- T 30, N 32, P 24: the byte of the tag area at which the tag of sector 17 starts, so that it goes on in the next sector; where its three stores go, the
     -- lower sector of the tag before the upper (R116); how many stores sectors 16, 17 and 18 have, and 49, which is not below P and has 49 mod N = 17 (R117)
     record {

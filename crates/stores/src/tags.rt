@@ -1,4 +1,5 @@
-// The bytes of a tag that one store brings home: R46, R116. A tag that crosses into the next sector takes two, the lower sector first.
+// The bytes of a tag that one store brings home: R46, R116. A tag that crosses into the next sector takes two, the lower sector first. For the crates of this
+// repository, as the stores themselves.
 use layout::SECTOR_SIZE;
 use on_disk::Layout;
 ghost use mathlib.Core.Bool.{true};

@@ -14,7 +14,7 @@ const BENCH: Layout = Layout {
 };
 
 /// r 0, T 20, N 8, S 1, P 8.
-const WARD: Layout = Layout {
+const TAG_20: Layout = Layout {
     log2_run: 3,
     tag_size: 20,
     provided: 8,
@@ -177,8 +177,8 @@ fn the_same_sector_twice() {
 fn tags_of_20_bytes() {
     let needed = 128;
     let refused = Refusal::VolumeTooShort { needed };
-    assert_eq!(format(&mut vec![0; 127 * 512], &WARD), Err(refused));
-    let mut world = World::of(&WARD, 128);
+    assert_eq!(format(&mut vec![0; 127 * 512], &TAG_20), Err(refused));
+    let mut world = World::of(&TAG_20, 128);
     assert_eq!(world.staging.len(), 104 * 512);
     world.write(7, 1).unwrap();
     flush(&mut world.state).unwrap();

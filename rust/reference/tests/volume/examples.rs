@@ -67,13 +67,13 @@ fn tags_across_sectors() {
         let stores = if sector % 32 == 17 { 3 } else { 2 };
         assert_eq!(geometry.stores(sector), stores, "{sector}");
     }
-    let ward = Layout {
+    let tag_20 = Layout {
         log2_run: 3,
         tag_size: 20,
         provided: 8,
         ..BENCH
     };
-    let geometry = volumes::geometry(&ward);
+    let geometry = volumes::geometry(&tag_20);
     assert_eq!(geometry.sectors, 128);
     assert!((0..100).all(|sector| geometry.stores(sector) == 2));
 }

@@ -1,6 +1,6 @@
 //! A write that is cut after each of its stores, by `--cut-after`, and its recovery.
 
-use crate::setting::{Ended, Folder, ACROSS_SECTORS, SAMPLE, WARD};
+use crate::setting::{Ended, Folder, ACROSS_SECTORS, SAMPLE, TAG_20};
 use reference::volume::{advance, flush, open, write, Layout, TagRule};
 use volumes::geometry;
 
@@ -23,8 +23,8 @@ const TO_SAMPLE: Write = Write {
     written_back: 4,
 };
 
-const TO_WARD: Write = Write {
-    layout: WARD,
+const TO_TAG_20: Write = Write {
+    layout: TAG_20,
     first: 6,
     sectors: 2,
     commit: 104,
@@ -133,7 +133,7 @@ fn after_each_store_with_a_key() {
 
 #[test]
 fn after_each_store_with_tags_of_20_bytes() {
-    TO_WARD.cut_after_each_store(TagRule::Digest);
+    TO_TAG_20.cut_after_each_store(TagRule::Digest);
 }
 
 #[test]

@@ -1,6 +1,6 @@
 //! `gaffreel drill`.
 
-use crate::setting::{damage, with_sections, Folder, ACROSS_SECTORS, OTHER, SAMPLE, WARD};
+use crate::setting::{damage, with_sections, Folder, ACROSS_SECTORS, OTHER, SAMPLE, TAG_20};
 use reference::volume::Layout;
 use volumes::{put_id, Entry};
 
@@ -84,7 +84,7 @@ fn tags_across_two_sectors() {
         across.0 > within.0 && across.1 > within.1,
         "{across:?} {within:?}"
     );
-    let fresh = volumes::formatted(&WARD, 0);
+    let fresh = volumes::formatted(&TAG_20, 0);
     survives(&fresh, &["--batches=2", "--writes=6"]);
 }
 

@@ -1,6 +1,6 @@
 //! `gaffreel dump`.
 
-use crate::setting::{with_sections, Ended, Folder, ACROSS_SECTORS, OTHER, SAMPLE, WARD};
+use crate::setting::{with_sections, Ended, Folder, ACROSS_SECTORS, OTHER, SAMPLE, TAG_20};
 use volumes::{padding_place, put_id, Entry};
 
 const SAMPLE_LAYOUT: &str = "\
@@ -73,8 +73,8 @@ fn sections_and_entries() {
 /// What stands behind a tag in an entry is no part of the tag.
 #[test]
 fn tags_of_20_bytes() {
-    let mut volume = with_sections(&WARD, &[(0, 1, &[Entry::new(5, 1), Entry::new(7, 2)])]);
-    let geometry = WARD.geometry().unwrap();
+    let mut volume = with_sections(&TAG_20, &[(0, 1, &[Entry::new(5, 1), Entry::new(7, 2)])]);
+    let geometry = TAG_20.geometry().unwrap();
     let padding = padding_place(&geometry, 1);
     assert_eq!(padding.len(), 4);
     let section = &mut volume[geometry.journal() * 512..];

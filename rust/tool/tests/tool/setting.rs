@@ -29,8 +29,8 @@ pub const OTHER: Layout = Layout {
     provided: 10,
 };
 
-/// A ward card: r 0, T 20, N 8, S 1, P 8, 128 sectors.
-pub const WARD: Layout = Layout {
+/// Tags of 20 bytes: r 0, T 20, N 8, S 1, P 8, 128 sectors.
+pub const TAG_20: Layout = Layout {
     reserved: 0,
     log2_run: 3,
     tag_size: 20,
