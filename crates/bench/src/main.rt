@@ -1,4 +1,5 @@
 // The bench program: R88. Reads an image from standard input and prints its report; volume_report says what that is.
+#![tactic(auto)]
 use libc::{STDIN_FILENO, STDOUT_FILENO};
 use volume_report::{REPORT_SIZE, report};
 

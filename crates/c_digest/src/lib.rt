@@ -4,6 +4,7 @@
 // a refusal (R71). After a refusal every buffer is as it was.
 //
 // A state lies between two calls in a buffer of the caller's, which module state lays out. Any bytes of its length are a state.
+#![tactic(auto)]
 pub mod state;
 
 ghost use Rattle.std.specs.Prelude.{◌≡◌};

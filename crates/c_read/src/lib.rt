@@ -1,6 +1,7 @@
 // The calls that read a sector and verify many, on buffers, as crate gaffreel exports them: R50, R51. What each leaves is defined in specs/Reads.antt.
 //
 // A call takes numbers and byte slices, and answers a number, as those of crate c_setup do. After a refusal every buffer but the answer's is as it was.
+#![tactic(auto)]
 ghost use Rattle.std.specs.Prelude.{◌≡◌};
 ghost use Rattle.c_read.specs.Reads.{read_call, verify_call};
 

@@ -2,6 +2,8 @@
 //
 // These are functions for the crates of this repository. The digest hands on whole blocks alone; so a function here may have a `requires`, and every
 // caller shows it.
+#![tactic(auto)]
+
 mod words;
 
 ghost use Rattle.std.specs.Prelude.{◌≡◌, ℕ, ◌+◌, ◌*◌, ◌%◌, ◌<◌, ◌≤◌, List, length};

@@ -8,6 +8,7 @@
 // - nist-bd to zeros-1000000: NIST's additional tests for SHA-256, the first ten.
 // The others are those of sha256sum: fips-896, a message that FIPS 180-2 has for SHA-512, and length-0 to length-300, where byte i of
 // length-n is (7 i + 13 n) mod 256. tests/digest_vectors.sh has sha256sum make all of them again.
+#![tactic(auto)]
 mod forms;
 
 ghost use Rattle.std.specs.Prelude.{◌≤◌};

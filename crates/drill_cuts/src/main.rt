@@ -4,6 +4,7 @@
 // A line for each number of sections, then with every call under a key (R105), then on a layout on which a tag lies across two sectors (R116), so that some cuts
 // come between the two stores of that tag. With one section, the second batch goes over the first in the journal; with two, a recovery may replay both. A drill
 // has as many steps in its last recovery as R40 counts stores, so it is done recovering only if that is the number.
+#![tactic(auto)]
 mod script;
 mod tally;
 

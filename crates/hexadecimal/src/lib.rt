@@ -1,4 +1,5 @@
 // Bytes in hexadecimal on standard output, for the programs that print digests.
+#![tactic(auto)]
 use libc::STDOUT_FILENO;
 
 // Prints two digits for each byte, in lower case, and no line end.

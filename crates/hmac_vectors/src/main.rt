@@ -6,6 +6,7 @@
 // - key-0 to key-257: a key of each length n, whose byte i is (7 i + 5 n) mod 256. The message has (7 n) mod 201 bytes, so each length up to 200 is
 //   met; its byte i is (7 i + 13 n) mod 256. The macs are those of openssl; keys of 0 and 257 bytes are refused, R106.
 // tests/hmac_vectors.sh has openssl make all of them again.
+#![tactic(auto)]
 mod forms;
 
 ghost use Rattle.std.specs.Prelude.{◌≤◌, length};

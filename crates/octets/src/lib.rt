@@ -2,6 +2,8 @@
 //
 // These are helpers for the crates of this repository, which test the length of a loan once, in the call that takes it.
 // So each requires that the bytes it names lie inside its slices, and its callers show that.
+#![tactic(auto)]
+
 ghost use Rattle.std.specs.Prelude.{◌≡◌, ◌+◌, ◌^◌, ◌≤◌, ◌<◌, length, replicate};
 ghost use Rattle.octets.specs.Numbers.{le, value};
 ghost use Rattle.octets.specs.Parts.{part, patch, same};

@@ -1,6 +1,7 @@
 // The on-disk format's one type: R25.
 //
 // Where the parts of a volume lie and what bytes they hold is defined in specs/. The code that reads and writes them is in the crates above.
+#![tactic(auto)]
 
 // Where everything lies on a volume. Any numbers may be handed in; `layout_ok` of specs/Layout.antt says which are in range.
 #[derive(Drop)]

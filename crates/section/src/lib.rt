@@ -1,5 +1,6 @@
 // A journal section: R26 to R30. A section is lent as a slice of its M sectors' bytes: staging is one, and so is each section
 // of a volume. Its functions are for the crates of this repository: T is at most 32, and an entry is one of the section's E, which callers show.
+#![tactic(auto)]
 ghost use Rattle.std.specs.Prelude.{true, ◌≡◌, ℕ, ◌+◌, ◌*◌, ◌≤◌, ◌<◌, length, take};
 ghost use Rattle.octets.specs.Sectors.{sector_size, sector_at};
 ghost use Rattle.on_disk.specs.Layout.{most_width, entry_size, entry_count, section_size, layout_ok};

@@ -3,6 +3,7 @@
 // What each call returns is defined in specs/Build.antt and specs/Verify.antt, and what is proved of the two together is stated in
 // specs/Theorems.antt. The length of a tree is passed on from crate tree_path. Counts and indexes are usize, 64 bits on every target: none is cut off
 // before it is tested.
+#![tactic(auto)]
 mod compare;
 
 ghost use Rattle.std.specs.Prelude.{◌≡◌, replicate};

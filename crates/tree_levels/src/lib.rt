@@ -1,6 +1,7 @@
 // The levels of a hash tree, filled in from the data up. What they are is defined in tree_path/specs/Tree.antt.
 //
 // These are helpers for the call that builds a tree, which has tested every length. So each requires what was tested.
+#![tactic(auto)]
 ghost use Rattle.std.specs.Prelude.{◌+◌, ◌-◌, ◌*◌, ◌<◌, ◌≤◌, ◌≡◌, length, replicate};
 ghost use Rattle.octets.specs.Parts.{part, patch};
 ghost use Rattle.digest.specs.Sha256.{digest_size};

@@ -5,6 +5,7 @@
 // Then a line for each damage: what is damaged, the answer's number (R71), and for 12 the level that it names.
 //
 // Byte i of the image is (7 i + 13 (i div 4096)) mod 256, and byte i of a salt is (31 i + 5) mod 256.
+#![tactic(auto)]
 mod damage;
 mod report;
 

@@ -1,6 +1,7 @@
 // The examples of R92, run by the volume's own calls: r 0, T 32, N 16, S 1, P 16, so 120 sectors.
 //
 // Sector 5 is written with 512 bytes of one value, and read back at the end: the value that is printed is that of all 512 bytes.
+#![tactic(auto)]
 mod calls;
 mod report;
 

@@ -1,0 +1,6 @@
+use Rattle.compression.specs.Words.{Σ₀}
+use Rattle.compression.proofs.words.big_sigma0.Goals as goal
+
+pub returns : goal.returns
+unfolding Σ₀
+returns c = cc

@@ -1,0 +1,6 @@
+use Rattle.compression.specs.Words.{Σ₁}
+use Rattle.compression.proofs.words.big_sigma1.Goals as goal
+
+pub returns : goal.returns
+unfolding Σ₁
+returns c = cc

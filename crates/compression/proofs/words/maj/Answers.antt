@@ -1,0 +1,7 @@
+use Rattle.std.proofs.Common.{refl}
+use Rattle.compression.specs.Words.{Maj}
+use Rattle.compression.proofs.words.maj.Goals as goal
+
+pub returns : goal.returns
+unfolding Maj
+returns c = refl

@@ -1,0 +1,6 @@
+use Rattle.compression.specs.Words.{σ₀}
+use Rattle.compression.proofs.words.small_sigma0.Goals as goal
+
+pub returns : goal.returns
+unfolding σ₀
+returns c = cc
