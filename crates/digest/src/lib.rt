@@ -3,6 +3,7 @@
 // What each call returns is defined in specs/Pieces.antt. The digest itself is `sha256` of specs/Sha256.antt, which crates
 // above see by the laws in specs/Sha256/Promise.antt alone.
 #![tactic(auto)]
+
 mod pieces;
 
 ghost use Rattle.std.specs.Prelude.{◌+◌, ◌≤◌, ◌≡◌, ◌++◌, length};

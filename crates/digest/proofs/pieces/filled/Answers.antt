@@ -1,0 +1,10 @@
+use mathlib.Core.Path.{◌≡◌}
+use native.Mathlib.Omega.{arith}
+use lib.ListN.{length}
+use Rattle.digest.proofs.Absorb.{fills}
+use Rattle.digest.proofs.pieces.filled.Goals as goal
+
+pub returns : goal.returns
+returns c =
+    let size : length c.args.t ≡ 64 = omega arith in
+    (fills c.args.n c.args.t c.args.p.now c.copy_at.new.d c.copy_at-2.new.d size c.requires c.copy_at.ensures c.copy_at-2.ensures, size)
