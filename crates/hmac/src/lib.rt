@@ -3,6 +3,7 @@
 // What each call returns is defined in specs/Call.antt and specs/Kept.antt; `hmac` itself is in specs/Hmac.antt. Of `sha256` this crate uses the
 // digest's promise alone.
 #![tactic(auto)]
+
 ghost use Rattle.std.specs.Prelude.{◌≡◌, ◌++◌, map, ◌+◌, ◌≤◌, length, replicate};
 ghost use Rattle.std.specs.Int.Bits.{bit_xor};
 ghost use Rattle.octets.specs.Answer.{number_in};

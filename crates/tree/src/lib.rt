@@ -4,6 +4,7 @@
 // specs/Theorems.antt. The length of a tree is passed on from crate tree_path. Counts and indexes are usize, 64 bits on every target: none is cut off
 // before it is tested.
 #![tactic(auto)]
+
 mod compare;
 
 ghost use Rattle.std.specs.Prelude.{◌≡◌, replicate};

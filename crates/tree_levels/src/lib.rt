@@ -2,6 +2,7 @@
 //
 // These are helpers for the call that builds a tree, which has tested every length. So each requires what was tested.
 #![tactic(auto)]
+
 ghost use Rattle.std.specs.Prelude.{◌+◌, ◌-◌, ◌*◌, ◌<◌, ◌≤◌, ◌≡◌, length, replicate};
 ghost use Rattle.octets.specs.Parts.{part, patch};
 ghost use Rattle.digest.specs.Sha256.{digest_size};

@@ -4,6 +4,7 @@
 // These are helpers for the crates of this repository, which test counts and lengths once, in the call that takes them. So a function may require what was
 // tested, and its callers show it.
 #![tactic(auto)]
+
 pub mod path;
 pub mod places;
 
