@@ -133,9 +133,18 @@ module _ (tags : Tags) (g : Layout) (v₀ : List ℕ) (X : Premises (tags g.widt
   recover-settles d l m k st D A =
       rw (runs d l (state_at g 0 m (Recovering k)) st (working 0 m (Recovering k) st (in_recovering D A)), at-get g A.spot) (home-settles (state_at g 0 m (Recovering k)) (volume_in d) st _ _ _ _ st)
 
+  recovering-at : (d : Medium) (l : Ledger) (s : State) (st : List ℕ) → Lives tag g v₀ d l (on s st) → (k : ℕ) → s.phase ≡ Recovering k
+      → Disk tag g v₀ (volume_in d) l.contents × AtRecover tag g v₀ (volume_in d) l s.id k st
+  recovering-at d l s st (working n m _ _ (in_filling D A)) k e = absurd (let z : ◌≡◌ {A = ℕ} 0 1 = cc in omega arith)
+  recovering-at d l s st (working n m (Committing j) _ (in_committing p A)) k e = absurd (let z : ◌≡◌ {A = ℕ} 0 1 = cc in omega arith)
+  recovering-at d l s st (working n m (WritingBack i h) _ (in_writing_back D A)) k e = absurd (let z : ◌≡◌ {A = ℕ} 0 1 = cc in omega arith)
+  recovering-at d l s st (working n m (Recovering j) _ (in_recovering D A)) k e =
+      let same : j ≡ k = cc in
+      (D, subst (λ (i : ℕ). AtRecover tag g v₀ (volume_in d) l m i st) same A)
+
   back : (d : Medium) (l : Ledger) (m k : ℕ) (st : List ℕ) → Lives tag g v₀ d l (on (state_at g 0 m (Recovering k)) st)
       → Disk tag g v₀ (volume_in d) l.contents × AtRecover tag g v₀ (volume_in d) l m k st
-  back d l m k st (working _ _ _ _ (in_recovering D A)) = (D, A)
+  back d l m k st L = recovering-at d l (state_at g 0 m (Recovering k)) st L k refl
 
   -- store k is made next: as many steps settle as there are stores from there
   settles : (j : ℕ) (w : World) (l : Ledger) (m k : ℕ) (st : List ℕ) → w.live ≡ on (state_at g 0 m (Recovering k)) st → Lives tag g v₀ w.medium l w.live

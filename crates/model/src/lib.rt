@@ -3,6 +3,7 @@
 // What each call means, over any tag function, is defined in specs/, one file to a call; the ledger and demand 3 stand there too. The on-disk format is in
 // the crate below; the code that meets these definitions is in the crates above.
 #![tactic(auto)]
+
 ghost use Rattle.std.specs.Prelude.{◌≡◌};
 ghost use Rattle.model.specs.Refusal.{refusal_of, step_answer};
 ghost use Rattle.model.specs.StepResult.{step_acknowledges, step_settles};
