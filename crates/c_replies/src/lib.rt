@@ -28,7 +28,7 @@ const ACKNOWLEDGED: u64 = 1;
 const FILLING: u64 = 2;
 
 // What a call says: the number that it answers, and the five numbers that go to the answer's buffer.
-#[derive(Drop)]
+#[derive(Clone, Copy)]
 pub struct Reply {
     number: u32,
     first: u64,

@@ -36,7 +36,7 @@ const WRITING_BACK: u64 = 2;
 const RECOVERING: u64 = 3;
 
 // A phase as it lies in a buffer: which it is, and the two numbers of its place, 0 where it has none.
-#[derive(Drop)]
+#[derive(Clone, Copy)]
 pub(crate) struct PhaseNumbers {
     phase: u64,
     first: u64,

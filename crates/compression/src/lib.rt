@@ -39,7 +39,7 @@ fn constants(i: usize) -> [u32; 4]
 }
 
 // The working variables.
-#[derive(Drop)]
+#[derive(Clone, Copy)]
 pub struct Variables {
     pub a: u32,
     pub b: u32,

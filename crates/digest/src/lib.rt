@@ -16,7 +16,7 @@ pub const DIGEST_SIZE: usize = 32;
 
 // A digest in the making (R94): the hash value of the whole blocks so far, the unfinished block, and how many bytes there were in all.
 // Any value of it may be handed in.
-#[derive(Drop)]
+#[derive(Clone, Copy)]
 pub struct State {
     pub words: [u32; 8],
     pub tail: [u8; 64],
@@ -24,7 +24,7 @@ pub struct State {
 }
 
 // How a call ends; specs/Answer.antt has number and values of each.
-#[derive(Drop)]
+#[derive(Clone, Copy)]
 pub enum Answer {
     // The call was carried out.
     Taken,
@@ -33,14 +33,14 @@ pub enum Answer {
 }
 
 // What adding a piece returns. (An enum can't hold an array, so the answer stands beside the state.)
-#[derive(Drop)]
+#[derive(Clone, Copy)]
 pub struct Updated {
     pub answer: Answer,
     pub state: State,
 }
 
 // What closing returns; the digest is zeros where the answer is a refusal.
-#[derive(Drop)]
+#[derive(Clone, Copy)]
 pub struct Closed {
     pub answer: Answer,
     pub digest: [u8; DIGEST_SIZE],

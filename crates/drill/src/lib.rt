@@ -60,21 +60,21 @@ const LONG_KEY_SIZE: usize = 257;
 pub const EVENT_SIZE: usize = 4;
 
 // What is live: nothing at first and after a cut, then the state that the last call handed back.
-#[derive(Drop)]
+#[derive(Clone, Copy)]
 pub enum Live {
     Off,
     On(State),
 }
 
 // What is live after an event, and whether that was an open that reports no store to come, or a step that says filling.
-#[derive(Drop)]
+#[derive(Clone, Copy)]
 pub struct Moment {
     pub live: Live,
     pub settled: bool,
 }
 
 // What a drill hands back: format's answer, and what the last event left.
-#[derive(Drop)]
+#[derive(Clone, Copy)]
 pub struct Played {
     pub format: FormatAnswer,
     pub last: Moment,

@@ -5,7 +5,7 @@ use libc::STDOUT_FILENO;
 use model::{ReadAnswer, State};
 use volume::SECTOR_SIZE;
 
-#[derive(Drop)]
+#[derive(Clone, Copy)]
 pub(crate) struct Tally {
     pub(crate) drills: usize,
     // those after which the volume was open and done recovering

@@ -31,14 +31,14 @@ const OPAD: u8 = 0x5c;
 const MESSAGE_LIMIT: u64 = 2305843009213693887;
 
 // What is kept of a key: the hash values behind the two padded blocks. Any value of it may be handed in.
-#[derive(Drop)]
+#[derive(Clone, Copy)]
 pub struct Key {
     pub inner: [u32; 8],
     pub outer: [u32; 8],
 }
 
 // How a call ends; specs/Answer.antt has number and values of each.
-#[derive(Drop)]
+#[derive(Clone, Copy)]
 pub enum Answer {
     // The call was carried out.
     Taken,
@@ -49,7 +49,7 @@ pub enum Answer {
 }
 
 // What the call returns; the mac is zeros where the answer is a refusal.
-#[derive(Drop)]
+#[derive(Clone, Copy)]
 pub struct Mac {
     pub answer: Answer,
     pub mac: [u8; 32],

@@ -3,4 +3,5 @@
 // Its functions are for the crates of this repository. The calls test loans and layout once; so a function here may have
 // a `requires`, and every caller shows it.
 #![tactic(auto)]
+
 pub mod journal;

@@ -4,6 +4,7 @@
 // `layout_ok`, `width_ok` and `volume_loan_ok`, which is that of the model's specs/State.antt, take anything. The others are for the crates of this
 // repository: they require a layout in range, or a tag of at most 32 bytes, which their callers have tested.
 #![tactic(auto)]
+
 pub mod superblock;
 
 ghost use Rattle.std.specs.Prelude.{true, ◌≡◌, ◌*◌, ◌%◌, ◌^◌, ◌≤◌, ◌<◌, length};

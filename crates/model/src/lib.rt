@@ -11,7 +11,7 @@ ghost use Rattle.model.specs.StepResult.{step_acknowledges, step_settles};
 use on_disk::Layout;
 
 // What the volume is doing, and the place it has come to.
-#[derive(Drop)]
+#[derive(Clone, Copy)]
 pub enum Phase {
     // The batch in staging takes writes.
     Filling,
@@ -24,7 +24,7 @@ pub enum Phase {
 }
 
 // What a caller keeps between calls, beside volume and staging.
-#[derive(Drop)]
+#[derive(Clone, Copy)]
 pub struct State {
     pub layout: Layout,
     pub phase: Phase,
@@ -35,7 +35,7 @@ pub struct State {
 }
 
 // The refusals of R71, with what is also returned. `refusal_of` of specs/Refusal.antt gives number and values.
-#[derive(Drop)]
+#[derive(Clone, Copy)]
 pub enum Refusal {
     // 1: a loan has a wrong length, or a state is not sound
     Malformed,
@@ -86,26 +86,26 @@ pub fn number(r: Refusal) -> u32
     }
 }
 
-#[derive(Drop)]
+#[derive(Clone, Copy)]
 pub enum FormatAnswer {
     Formatted,
     Refused(Refusal),
 }
 
-#[derive(Drop)]
+#[derive(Clone, Copy)]
 pub enum OpenAnswer {
     // The state, and how many stores are to come before the volume is filling.
     Opened(State, usize),
     Refused(Refusal),
 }
 
-#[derive(Drop)]
+#[derive(Clone, Copy)]
 pub enum WriteAnswer {
     Taken,
     Refused(Refusal),
 }
 
-#[derive(Drop)]
+#[derive(Clone, Copy)]
 pub enum FlushAnswer {
     // The batch was empty: it is acknowledged at once.
     Acknowledged,
@@ -115,7 +115,7 @@ pub enum FlushAnswer {
 }
 
 // What a step did to the volume.
-#[derive(Drop)]
+#[derive(Clone, Copy)]
 pub enum Done {
     Idle,
     // This sector of the volume was stored.
@@ -123,7 +123,7 @@ pub enum Done {
 }
 
 // What a step says besides.
-#[derive(Drop)]
+#[derive(Clone, Copy)]
 pub enum Says {
     Nothing,
     // The batch is acknowledged: it is on the volume.
@@ -132,7 +132,7 @@ pub enum Says {
     Filling,
 }
 
-#[derive(Drop)]
+#[derive(Clone, Copy)]
 pub enum StepAnswer {
     Stepped(Done, Says),
     Refused(Refusal),
@@ -166,21 +166,21 @@ pub fn says_filling(a: StepAnswer) -> bool
     }
 }
 
-#[derive(Drop)]
+#[derive(Clone, Copy)]
 pub enum QueryAnswer {
     // The numbers that the superblock holds, and the bytes that the staging loan must have.
     Holds(Layout, usize),
     Refused(Refusal),
 }
 
-#[derive(Drop)]
+#[derive(Clone, Copy)]
 pub enum ReadAnswer {
     // The sector's bytes are in the loan.
     Found,
     Refused(Refusal),
 }
 
-#[derive(Drop)]
+#[derive(Clone, Copy)]
 pub enum VerifyAnswer {
     // Every tag asked for fits its sector's data.
     Fits,
@@ -188,19 +188,19 @@ pub enum VerifyAnswer {
 }
 
 // What write, flush and step hand back: the answer, and the state, which a refusal leaves as it was.
-#[derive(Drop)]
+#[derive(Clone, Copy)]
 pub struct Written {
     pub answer: WriteAnswer,
     pub state: State,
 }
 
-#[derive(Drop)]
+#[derive(Clone, Copy)]
 pub struct Flushed {
     pub answer: FlushAnswer,
     pub state: State,
 }
 
-#[derive(Drop)]
+#[derive(Clone, Copy)]
 pub struct Stepped {
     pub answer: StepAnswer,
     pub state: State,
@@ -208,7 +208,7 @@ pub struct Stepped {
 
 // What advance hands back: the last step's answer (idle, and nothing said, where no step was asked), how many steps did something, whether one
 // acknowledged the batch, and the state.
-#[derive(Drop)]
+#[derive(Clone, Copy)]
 pub struct Advanced {
     pub answer: StepAnswer,
     pub done: usize,

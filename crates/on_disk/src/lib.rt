@@ -4,7 +4,7 @@
 #![tactic(auto)]
 
 // Where everything lies on a volume. Any numbers may be handed in; `layout_ok` of specs/Layout.antt says which are in range.
-#[derive(Drop)]
+#[derive(Clone, Copy)]
 pub struct Layout {
     // r, the sectors before the superblock
     pub reserved: usize,

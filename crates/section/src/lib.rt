@@ -1,6 +1,7 @@
 // A journal section: R26 to R30. A section is lent as a slice of its M sectors' bytes: staging is one, and so is each section
 // of a volume. Its functions are for the crates of this repository: T is at most 32, and an entry is one of the section's E, which callers show.
 #![tactic(auto)]
+
 ghost use Rattle.std.specs.Prelude.{true, ◌≡◌, ℕ, ◌+◌, ◌*◌, ◌≤◌, ◌<◌, length, take};
 ghost use Rattle.octets.specs.Sectors.{sector_size, sector_at};
 ghost use Rattle.on_disk.specs.Layout.{most_width, entry_size, entry_count, section_size, layout_ok};
@@ -13,7 +14,7 @@ use layout::{METADATA_SIZE, SECTOR_SIZE};
 use on_disk::Layout;
 
 // A store of a replay: store `store` of entry `entry` of section `section`. With a greater number than the entry has stores, one behind them.
-#[derive(Drop)]
+#[derive(Clone, Copy)]
 pub struct Location {
     pub section: usize,
     pub entry: usize,

@@ -3,5 +3,6 @@
 // These are functions for the crates of this repository. The calls test loans and layout once; so a function here may have
 // a `requires`, and every caller shows it.
 #![tactic(auto)]
+
 pub mod state;
 pub mod tag;

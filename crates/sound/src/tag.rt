@@ -8,7 +8,7 @@ ghost use Rattle.sound.specs.Rule.{digest_by, plain_of, keyed_of};
 use hmac::Key;
 
 // The rule that a call goes by. Any value of it may be handed in; one without a key leaves what stands for the key unread.
-#[derive(Drop)]
+#[derive(Clone, Copy)]
 pub struct Rule {
     pub keyed: bool,
     pub key: Key,

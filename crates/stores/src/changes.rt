@@ -13,7 +13,7 @@ use layout::SECTOR_SIZE;
 use on_disk::Layout;
 
 // So many bytes of the volume, from its byte `byte` on. They lie in one sector.
-#[derive(Drop)]
+#[derive(Clone, Copy)]
 pub struct Part {
     pub byte: usize,
     pub size: usize,

@@ -4,6 +4,7 @@
 // These are functions for the crates of this repository, which test the state, the loans and the entry's sector first: so each has a `requires`, and
 // every caller shows it.
 #![tactic(auto)]
+
 pub mod changes;
 pub mod tags;
 

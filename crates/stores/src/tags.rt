@@ -8,7 +8,7 @@ use layout::SECTOR_SIZE;
 use on_disk::Layout;
 
 // So many bytes of a tag, from its byte `from` on, and the volume's byte from which on they lie.
-#[derive(Drop)]
+#[derive(Clone, Copy)]
 pub struct TagPiece {
     pub from: usize,
     pub byte: usize,

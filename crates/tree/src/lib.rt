@@ -19,7 +19,7 @@ pub use tree_path::places::length;
 use tree_path::{path, places};
 
 // How a call ends; specs/Answer.antt has the number and values of each (R71).
-#[derive(Drop)]
+#[derive(Clone, Copy)]
 pub enum Answer {
     // Not refused: the tree is built, the block is accepted.
     Taken,
@@ -34,7 +34,7 @@ pub enum Answer {
 }
 
 // What building returns; the root digest is zeros where the answer is a refusal. (An enum can't hold an array, so it stands beside the answer.)
-#[derive(Drop)]
+#[derive(Clone, Copy)]
 pub struct Built {
     pub answer: Answer,
     pub root: [u8; DIGEST_SIZE],

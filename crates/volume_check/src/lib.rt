@@ -7,7 +7,7 @@ ghost use Rattle.volume_check.specs.Check.{recover_answer, recover_of, is_bad, F
 use layout::SECTOR_SIZE;
 use model::{OpenAnswer, ReadAnswer, Refusal, State};
 
-#[derive(Drop)]
+#[derive(Clone, Copy)]
 pub enum RecoverAnswer {
     // The state, and how many stores were to come.
     Recovered(State, usize),

@@ -16,14 +16,14 @@ const REFUSED: usize = 256;
 const MIXED: usize = 257;
 
 // An open volume, and the stores to come.
-#[derive(Drop)]
+#[derive(Clone, Copy)]
 pub(crate) struct Opened {
     pub(crate) state: State,
     pub(crate) stores: usize,
 }
 
 // The stores from a flush to filling: how many, the one by which the batch was acknowledged, and the state afterwards.
-#[derive(Drop)]
+#[derive(Clone, Copy)]
 pub(crate) struct Course {
     pub(crate) stores: usize,
     pub(crate) acknowledged: usize,

@@ -26,7 +26,7 @@ use sound::tag::Rule;
 use sound::{state, tag};
 
 // What the check of entries to be replayed found.
-#[derive(Drop)]
+#[derive(Clone, Copy)]
 enum Check {
     Passed,
     Refused(Refusal),
