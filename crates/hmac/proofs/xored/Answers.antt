@@ -17,7 +17,6 @@ loop-i-preserved c = (
   omega arith,
   simp length-set c.loop-i.invariant.2,
   xor-turn (λ b. bit_xor b c.args.x) c.args.block c.loop-i.out c.loop-i.i (omega arith) (omega arith) c.loop-i.invariant.3,
-
 )
 
 pub returns : goal.returns
