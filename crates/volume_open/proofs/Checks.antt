@@ -18,7 +18,7 @@ use Rattle.octets.specs.Numbers.{le}
 use Rattle.octets.specs.Parts.{part, same}
 use Rattle.on_disk.specs.declared.Layout.{Layout}
 use Rattle.model.specs.declared.Refusal.{Refusal}
-use Rattle.on_disk.specs.Section.{Entry, unused}
+use Rattle.on_disk.specs.Section.{Entry, unused, entry_of}
 use Rattle.octets.specs.Lists.{collect}
 use Rattle.model.specs.Journal.{section_of, due_ids, Found, ordered, Replayed, used_entry, used_of, replay_in}
 use Rattle.on_disk.specs.Layout.{layout_ok}
@@ -40,6 +40,10 @@ pub entry-fits-is : (q : Rule) (t : ℕ) (e : Entry) (n : ℕ) (b d s : List ℕ
 entry-fits-is q t e n b d s r en eb es size ed er =
     let whole : take t s ≡ s = take_all t s (omega arith) in
     rw (er, ed, en, eb, whole, es)
+
+-- entry j, if it is used
+abbrev pub used_at : Layout → List ℕ → ℕ → ℕ → List Replayed
+used_at g section k j = used_entry k j (entry_of g.width section j)
 
 module _ (tag : Tag) (g : Layout) where
   abbrev pub verdict_of : List Replayed → Verdict
