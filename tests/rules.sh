@@ -29,7 +29,7 @@ fi
 } | sort -u >"$work/cited"
 
 # The page's own references are held too, and are not citations.
-grep -rnIowE --exclude-dir=target 'R[0-9]+' README.md crates docs tests include rust | sort >"$work/named"
+grep -rnIowE --exclude-dir=target --exclude-dir=out 'R[0-9]+' README.md crates docs tests include rust | sort >"$work/named"
 grep -v "^$page:" "$work/named" >"$work/citations"
 
 uniq -d "$work/rules" | sed 's/$/ is given twice/' >"$work/faults"
