@@ -19,10 +19,10 @@ pub tag_fits-requires : goal.tag_fits-requires
 tag_fits-requires c = (c.requires.0, c.requires.1, omega (arith, c.requires.2))
 
 pub returns-then-not-tag_fits : goal.returns-then-not-tag_fits
-returns-then-not-tag_fits c = sym (first-at (λ i. not (tag_fits (tag_by c.args.rule) c.args.g c.args.v.now (c.args.first + i))) (suc c.args.count) c.loop-i.i (omega arith) (ap not (sym c.tag_fits.ensures) ∙ c.if-not-tag_fits.true) c.loop-i.invariant.2)
+returns-then-not-tag_fits c = sym (first-at (λ i. not (tag_fits (tag_by c.args.rule) c.args.g c.args.v.now (c.args.first + i))) (suc c.args.count) c.loop-i.i (omega arith) (ap not (sym c.tag_fits.ensures ∙ c.if-not-tag_fits.true)) c.loop-i.invariant.2)
 
 pub loop-i-preserved : goal.loop-i-preserved
-loop-i-preserved c = (omega arith, c.loop-i.invariant.1, below_more _ _ c.loop-i.invariant.2 (ap not (sym c.tag_fits.ensures) ∙ c.if-not-tag_fits.false))
+loop-i-preserved c = (omega arith, c.loop-i.invariant.1, below_more _ _ c.loop-i.invariant.2 (ap not (sym c.tag_fits.ensures ∙ c.if-not-tag_fits.false)))
 
 pub returns : goal.returns
 returns c = let all : c.loop-i.i ≡ c.args.count = omega arith in all ∙ sym (first-none (λ i. not (tag_fits (tag_by c.args.rule) c.args.g c.args.v.now (c.args.first + i))) c.args.count (λ j l. c.loop-i.invariant.2 j (omega arith)))
