@@ -42,11 +42,10 @@ commit_step-requires c =
 
 pub write_back_step-requires : goal.write_back_step-requires
 write_back_step-requires c =
-    let p2 = c.p-in-WritingBack-1 in
     let sound = sym c.state_ok.ensures ∙ c.if-not-state_ok.false in
     let fit = sym c.layout_fits.ensures ∙ c.if-not-layout_fits.false in
     let staging = sym c.staged_ok.ensures ∙ c.if-not-staged_ok.false in
-    (sound, volume-in c.args.s c.args.v.now fit _ p2.given.1 refl, staging, p2.given.1, omega (arith, c.if-out-ne-SECTOR_SIZE.false))
+    (sound, volume-in c.args.s c.args.v.now fit _ c.in-WritingBack.is refl, staging, c.in-WritingBack.is, omega (arith, c.if-out-ne-SECTOR_SIZE.false))
 
 pub scan_step-requires : goal.scan_step-requires
 scan_step-requires c =
@@ -63,14 +62,13 @@ returns-in-Filling c =
 
 pub returns-in-Committing : goal.returns-in-Committing
 returns-in-Committing c =
-    let p = c.p-1 in
     let commit-step = c.commit_step in
     let sound = sym c.state_ok.ensures ∙ c.if-not-state_ok.false in
     let fit = sym c.layout_fits.ensures ∙ c.if-not-layout_fits.false in
     let staging = sym c.staged_ok.ensures ∙ c.if-not-staged_ok.false in
     lent c.args.s c.args.v.now c.args.st.now c.args.out.now (omega (arith, c.if-out-ne-SECTOR_SIZE.false)) _ _ _
-    (runs c.args.s c.args.v.now c.args.st.now c.args.out.now sound (volume-in c.args.s c.args.v.now fit _ p.given.1 refl) staging
-    _ p.given.1 refl commit-step.result _ c.args.st.now (commit-step.ensures c.args.v.now))
+    (runs c.args.s c.args.v.now c.args.st.now c.args.out.now sound (volume-in c.args.s c.args.v.now fit _ c.in-Committing.is refl) staging
+    _ c.in-Committing.is refl commit-step.result _ c.args.st.now (commit-step.ensures c.args.v.now))
 
 pub returns-in-WritingBack : goal.returns-in-WritingBack
 returns-in-WritingBack c =
