@@ -1,4 +1,4 @@
-use Rattle.std.proofs.Common.{◌≡◌, ◌-◌, refl, arith, rules}
+use Rattle.std.proofs.Common.{◌≡◌, refl, arith, rules}
 use Rattle.compression.specs.Compression.{rounds_of}
 use Rattle.compression.specs.Ring.{ring_of}
 use Rattle.compression.proofs.rounds.Goals as goal

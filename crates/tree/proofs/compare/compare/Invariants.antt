@@ -1,5 +1,5 @@
 -- The digests from place `left` on agree, so the rows of those below decide.
-use Prim.Native.Nat.{◌+◌, ◌-◌, ◌≤◌}
+use Prim.Native.Nat.{◌+◌, ◌≤◌}
 use mathlib.Core.Path.{◌≡◌}
 use lib.ListN.{take}
 use Rattle.tree_path.specs.Path.{standing_of}
