@@ -5,6 +5,7 @@
 //
 // A state lies between two calls in a buffer of the caller's, which module state lays out. Any bytes of its length are a state.
 #![tactic(auto)]
+
 pub mod state;
 
 ghost use Rattle.std.specs.Prelude.{◌≡◌};

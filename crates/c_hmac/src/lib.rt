@@ -3,6 +3,7 @@
 // The call takes byte slices, and answers a number: 0 where it was carried out, else that of a refusal (R71). After a refusal the digest's buffer is
 // as it was.
 #![tactic(auto)]
+
 ghost use Rattle.std.specs.Prelude.{◌≡◌};
 ghost use Rattle.c_hmac.specs.Hmac.{hmac_call};
 

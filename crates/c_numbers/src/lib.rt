@@ -5,6 +5,7 @@
 // These are for the crates c_*. Each length and number stands behind a function, whose contract holds it to its definition. A call tests a
 // buffer's length once; so a function here may have a `requires`, and every caller shows it.
 #![tactic(auto)]
+
 ghost use Rattle.std.specs.Prelude.{◌≡◌, [], ◌∷◌, ◌+◌, ◌*◌, ◌≤◌, length};
 ghost use Rattle.octets.specs.Parts.{patch};
 ghost use Rattle.digest.specs.Sha256.{digest_size};

@@ -5,6 +5,7 @@
 // These are functions for the volume's calls on buffers: crates c_setup, c_batch, c_read and c_step. They test a buffer's length once; so a function
 // here may have a `requires`, and every caller shows it.
 #![tactic(auto)]
+
 ghost use Rattle.std.specs.Prelude.{◌≡◌, length};
 ghost use Rattle.model.specs.Refusal.{refusal_of, format_answer, open_answer, query_answer, write_answer, flush_answer, step_answer, read_answer, verify_answer};
 ghost use Rattle.c_numbers.specs.Sizes.{layout_size, volume_state_size, answer_size};

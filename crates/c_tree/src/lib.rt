@@ -3,6 +3,7 @@
 // A call takes numbers and byte slices, and one that can refuse answers a number, as those of crate c_digest do. After a
 // refusal every buffer is as it was, but for one that receives what the refusal also returns.
 #![tactic(auto)]
+
 ghost use Rattle.std.specs.Prelude.{◌≡◌, length};
 ghost use Rattle.tree.specs.Answer.{answer_of};
 ghost use Rattle.c_numbers.specs.Sizes.{level_size};

@@ -6,6 +6,7 @@
 // These are functions for crate c_replies and the volume's calls on buffers. The calls test a buffer's length once; so a function here may have a
 // `requires`, and every caller shows it.
 #![tactic(auto)]
+
 ghost use Rattle.std.specs.Prelude.{◌≡◌, ◌≤◌, length};
 ghost use Rattle.octets.specs.Parts.{patch};
 ghost use Rattle.c_numbers.specs.Sizes.{layout_size, volume_state_size};

@@ -4,6 +4,7 @@
 // Each call takes any volume, staging, sector, parameter or state, and gives exactly what the definition of its name in the model's specs gives, with
 // the tag of R14: answer, state and every lent byte afterwards. No call has a `requires`.
 #![tactic(auto)]
+
 pub mod advance;
 
 pub use layout::SECTOR_SIZE;
