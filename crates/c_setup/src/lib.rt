@@ -6,6 +6,7 @@
 //
 // Crates c_volume_state and c_replies lay out the buffers.
 #![tactic(auto)]
+
 ghost use Rattle.std.specs.Prelude.{◌≡◌};
 ghost use Rattle.c_setup.specs.Setup.{layout_with, format_call, query_call, open_call};
 

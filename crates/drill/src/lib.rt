@@ -5,6 +5,7 @@
 // bytes, four to an event: its kind, a logical sector (2 bytes, little-endian), and a byte that fills the loans of the call. Any bytes are one.
 // Which lists a script can write is in specs/Script.antt.
 #![tactic(auto)]
+
 ghost use Rattle.std.specs.Prelude.{ℕ, ◌≤◌, true, false, List, [], ◌≡◌, length, take, replicate};
 ghost use Rattle.octets.specs.Answer.{is_taken};
 ghost use Rattle.octets.specs.Parts.{patch};

@@ -1,5 +1,6 @@
 // The check of a whole volume: R88. The volume is opened, its recovery is finished in memory, and each sector is read.
 #![tactic(auto)]
+
 ghost use Rattle.std.specs.Prelude.{◌≡◌, ◌≤◌, length};
 ghost use Rattle.octets.specs.Choice.{pick};
 ghost use Rattle.volume_check.specs.Check.{recover_answer, recover_of, is_bad, Flagged};
