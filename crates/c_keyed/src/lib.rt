@@ -4,6 +4,7 @@
 // Each is the call of that name in crate c_setup, c_batch or c_read, with a key of 1 to 256 bytes that is lent behind what the call of crate volume
 // is lent. After a refusal every buffer but the answer's is as it was.
 #![tactic(auto)]
+
 ghost use Rattle.std.specs.Prelude.{◌≡◌};
 ghost use Rattle.c_setup.specs.Setup.{layout_with};
 ghost use Rattle.c_keyed.specs.Keyed.{format_keyed_call, open_keyed_call, write_keyed_call, read_keyed_call, verify_keyed_call};

@@ -3,6 +3,7 @@
 // A call takes numbers and byte slices, and answers a number, as those of crate c_setup do. After a refusal every buffer but the answer's is as it was; of
 // several steps, those before the refused one stay made.
 #![tactic(auto)]
+
 ghost use Rattle.std.specs.Prelude.{◌≡◌};
 ghost use Rattle.octets.specs.Choice.{pick};
 ghost use Rattle.c_step.specs.Steps.{step_buffers, step_call, advance_call, next_store_buffers, next_store_call};

@@ -5,6 +5,7 @@
 // a refusal (R71). After a refusal every buffer is as it was, but for one that receives what the
 // refusal also returns; of several steps, those before the refused one stay made.
 #![tactic(auto)]
+
 pub mod hash_tree;
 pub mod hmac;
 pub mod keyed;

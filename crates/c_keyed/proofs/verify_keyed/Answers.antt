@@ -1,0 +1,25 @@
+use mathlib.Core.Bool.{not}
+use mathlib.Core.Path.{sym, ap, ◌∙◌}
+use Rattle.model.specs.declared.State.{State}
+use Rattle.model.specs.Verify.{verify_keyed_of}
+use Rattle.c_numbers.proofs.Calls.{called-wrong, called-bad, called-made}
+use Rattle.c_volume_state.proofs.VolumeStateBytes.{held-length}
+use Rattle.c_replies.proofs.Answers.{replied}
+use Rattle.c_read.proofs.Calls.{verify-left}
+use Rattle.c_keyed.specs.Keyed.{verify_keyed_call}
+use Rattle.c_keyed.proofs.verify_keyed.Goals as goal
+
+pub returns-then-answer-answer_size : goal.returns-then-answer-answer_size
+unfolding verify_keyed_call
+returns-then-answer-answer_size c = called-wrong c.args.answer.now _ _ _ c.answer_size.ensures c.wrong_length.ensures c.if-answer-answer_size.true
+
+pub returns-then-not-encodes_state : goal.returns-then-not-encodes_state
+unfolding verify_keyed_call
+returns-then-not-encodes_state c = called-bad c.args.answer.now _ _ _ c.answer_size.ensures c.if-answer-answer_size.false (ap not (sym c.encodes_state.ensures) ∙ c.if-not-encodes_state.true) c.refuse.ensures
+
+pub decode-requires : goal.decode-requires
+decode-requires c = held-length c.args.state.now c.encodes_state.ensures c.if-not-encodes_state.false
+
+pub returns : goal.returns
+unfolding verify_keyed_call
+returns c = called-made c.args.answer.now _ _ _ c.answer_size.ensures c.if-answer-answer_size.false (ap not (sym c.encodes_state.ensures) ∙ c.if-not-encodes_state.false) (verify-left c.args.state.now c.decode.ensures (λ (x : State). verify_keyed_of c.args.key.now x c.args.v.now c.args.first c.args.count) c.verify_keyed-said.result c.verify_keyed-said.ensures (replied c.verify_reply.ensures c.put_reply.ensures))
