@@ -15,14 +15,14 @@ returns-then-answer-answer_size c = called-wrong c.args.answer.now _ _ _ c.answe
 
 pub returns-then-not-encodes_state : goal.returns-then-not-encodes_state
 unfolding write_keyed_call
-returns-then-not-encodes_state c = called-bad c.args.answer.now _ _ _ c.answer_size.ensures c.if-answer-answer_size.false (ap not (sym c.encodes_state.ensures) ∙ c.if-not-encodes_state.true) c.refuse.ensures
+returns-then-not-encodes_state c = called-bad c.args.answer.now _ _ _ c.answer_size.ensures c.if-answer-answer_size.false (ap not (sym c.encodes_state.ensures ∙ c.if-not-encodes_state.true)) c.refuse.ensures
 
 pub decode-requires : goal.decode-requires
-decode-requires c = held-length c.args.state.now c.encodes_state.ensures c.if-not-encodes_state.false
+decode-requires c = held-length c.args.state.now c.encodes_state.ensures (ap not c.if-not-encodes_state.false)
 
 pub encode-requires : goal.encode-requires
-encode-requires c = held-length c.args.state.now c.encodes_state.ensures c.if-not-encodes_state.false
+encode-requires c = held-length c.args.state.now c.encodes_state.ensures (ap not c.if-not-encodes_state.false)
 
 pub returns : goal.returns
 unfolding write_keyed_call
-returns c = called-made c.args.answer.now _ _ _ c.answer_size.ensures c.if-answer-answer_size.false (ap not (sym c.encodes_state.ensures) ∙ c.if-not-encodes_state.false) (write-left c.args.state.now c.decode.ensures (λ (x : State). write_keyed_of c.args.key.now x c.args.staging.now c.args.sector c.args.bytes.now) c.write_keyed-written.result c.write_keyed-written.ensures c.encode.ensures (replied c.write_reply.ensures c.put_reply.ensures))
+returns c = called-made c.args.answer.now _ _ _ c.answer_size.ensures c.if-answer-answer_size.false (ap not (sym c.encodes_state.ensures ∙ c.if-not-encodes_state.false)) (write-left c.args.state.now c.decode.ensures (λ (x : State). write_keyed_of c.args.key.now x c.args.staging.now c.args.sector c.args.bytes.now) c.write_keyed-written.result c.write_keyed-written.ensures c.encode.ensures (replied c.write_reply.ensures c.put_reply.ensures))
