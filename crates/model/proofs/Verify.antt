@@ -1,5 +1,5 @@
 -- The call verify: specs/Verify.
-use Prim.Native.Nat.{ℕ, ◌+◌, ◌≤◌, ◌<◌}
+use Prim.Native.Nat.{ℕ, ◌+◌, ◌<◌}
 use native.Mathlib.Decide.{dec_lt}
 use native.Mathlib.Omega.{arith}
 use mathlib.Core.Bool.{Bool, true, false, not, ◌&&◌}
@@ -14,7 +14,7 @@ use Rattle.model.specs.declared.Phase.{Phase}
 use Rattle.model.specs.declared.Phase.TheVariants.{Filling, Committing, WritingBack, Recovering}
 use Rattle.model.specs.declared.State.{State}
 use Rattle.model.specs.Tag.{Tags, hmac_tag_of}
-use Rattle.model.specs.State.{Verdict, passed, state_ok, volume_ok, staged_ok, sector_ok, is_filling, is_recovering}
+use Rattle.model.specs.State.{Verdict, passed, state_ok, volume_ok, staged_ok, is_filling, is_recovering}
 use Rattle.model.specs.Read.{read_rows, read_by, read_of}
 use Rattle.model.specs.Keyed.{key_refusal}
 use Rattle.model.specs.Verify.{verify_rows, verify_of, verify_keyed_of, VerifiesAsRead, VerifiesKeyed}

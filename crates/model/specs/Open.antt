@@ -8,7 +8,7 @@
 -- entry_rows tag g x      : the rules on the entry x that is to be replayed; entries_verdict: on all of them, in replay order
 -- replay_verdict tag g v  : what the rules say of the sections to be replayed
 -- open_of tags r v st     : the call: its answer and the staging loan afterwards
-use Rattle.std.specs.Prelude.{ℕ, suc, ◌+◌, ◌*◌, Bool, not, ◌&&◌, List, [], ◌∷◌, ◌++◌, length, leb, ltb, eqb}
+use Rattle.std.specs.Prelude.{ℕ, ◌+◌, ◌*◌, Bool, not, ◌&&◌, List, [], ◌∷◌, ◌++◌, length, leb, ltb, eqb}
 use Rattle.octets.specs.Answer.{Answer, taken, refused, refuse}
 use Rattle.octets.specs.Choice.{pick, first_met}
 use Rattle.octets.specs.Parts.{same}

@@ -17,7 +17,6 @@ returns-then-place_in_run-g-gt-SECTOR_SIZE c = (
   (λ e q. in_two c.args.g c.requires c.place_in_run.result e (c.place_in_run.ensures.0 ∙ ap (λ (s : ℕ). s % run_length c.args.g) (sym q)) (omega arith)),
   omega arith,
   omega arith,
-
 )
 
 pub returns : goal.returns
@@ -25,5 +24,4 @@ returns c = (
   (λ e q. in_one c.args.g c.requires c.place_in_run.result e (c.place_in_run.ensures.0 ∙ ap (λ (s : ℕ). s % run_length c.args.g) (sym q)) (omega arith)),
   omega arith,
   omega arith,
-
 )
