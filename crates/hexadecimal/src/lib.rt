@@ -1,16 +1,16 @@
-// Bytes in hexadecimal on standard output, for the programs that print digests.
+// Bytes in hexadecimal, for the programs that print digests.
 #![tactic(auto)]
-use libc::STDOUT_FILENO;
+
+use std::io::{self, Write};
 
 // Prints two digits for each byte, in lower case, and no line end.
-pub fn print(bytes: &[u8]) {
-    let mut i: usize = 0;
-    while i < bytes.len() {
-        print_byte(bytes[i]);
-        i += 1;
+pub fn print<W: Write>(out: &mut W, bytes: &[u8]) -> io::Result<()> {
+    for b in bytes {
+        print_byte(out, *b)?;
     }
+    Ok(())
 }
 
-fn print_byte(b: u8) {
-    io::print_hex(STDOUT_FILENO, b as u64, 2);
+fn print_byte<W: Write>(out: &mut W, b: u8) -> io::Result<()> {
+    write!(out, "{b:02x}")
 }
