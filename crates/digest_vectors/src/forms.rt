@@ -2,23 +2,21 @@
 ghost use Rattle.std.specs.Prelude.{◌<◌, ◌≤◌, length};
 
 use digest::{Answer, Closed, DIGEST_SIZE};
-use libc::STDOUT_FILENO;
+use std::io::{self, Write};
 
 // The longest piece. A block is 64 bytes, so pieces of 1, 2, .. 97 bytes in turn end at each place of a block and go past its end.
 const LONGEST: usize = 97;
 
 // Prints ` DIGEST` where both forms give it, else ` differs`.
-pub(crate) fn print_digest(message: &[u8]) {
+pub(crate) fn print_digest<W: Write>(out: &mut W, message: &[u8]) -> io::Result<()> {
     let one = digest::sha256(message);
     let many = in_pieces(message);
-    if agree(one, many) {
-        let bytes = one.digest;
-        io::write_all(STDOUT_FILENO, b" ");
-        hexadecimal::print(&bytes);
-        io::write_all(STDOUT_FILENO, b"\n");
-    } else {
-        io::write_all(STDOUT_FILENO, b" differs\n");
+    if !agree(one, many) {
+        return out.write_all(b" differs\n");
     }
+    out.write_all(b" ")?;
+    hexadecimal::print(out, &one.digest)?;
+    out.write_all(b"\n")
 }
 
 // The digest of a message that is added in uneven pieces. A piece that is refused is missing from it, and the two forms differ.
