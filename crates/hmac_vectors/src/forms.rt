@@ -2,23 +2,23 @@
 ghost use Rattle.std.specs.Prelude.{◌≤◌, length};
 
 use hmac::Answer;
-use libc::STDOUT_FILENO;
+use std::io::{self, Write};
 
 // Prints the first n bytes of the mac, ` MAC`, where both forms give it, else ` differs`; or ` refused NUMBER`.
-pub(crate) fn print_mac(key: &[u8], message: &[u8], n: usize)
+pub(crate) fn print_mac<W: Write>(
+    out: &mut W,
+    key: &[u8],
+    message: &[u8],
+    n: usize,
+) -> io::Result<()>
     requires { (length key.now ≤ 257) × (length message.now ≤ 200) × (n ≤ 32) }
 {
     let whole = hmac::hmac(key, message);
-    let answer = whole.answer;
-    let Answer::Taken = answer else {
-        io::write_all(STDOUT_FILENO, b" refused ");
-        io::print_decimal(STDOUT_FILENO, hmac::number(answer) as u64);
-        io::write_all(STDOUT_FILENO, b"\n");
-        return;
+    let Answer::Taken = whole.answer else {
+        let number = hmac::number(whole.answer);
+        return writeln!(out, " refused {number}");
     };
-    let one = whole.mac;
-    let other = in_parts(key, message);
-    print_both(one, other, n);
+    print_both(out, whole.mac, in_parts(key, message), n)
 }
 
 // The mac by a kept key, of the message in two parts.
@@ -30,14 +30,13 @@ fn in_parts(key: &[u8], message: &[u8]) -> [u8; 32]
     hmac::mac_of_two(kept, &message[..half], &message[half..])
 }
 
-fn print_both(one: [u8; 32], other: [u8; 32], n: usize)
+fn print_both<W: Write>(out: &mut W, one: [u8; 32], other: [u8; 32], n: usize) -> io::Result<()>
     requires { n ≤ 32 }
 {
-    if octets::same_at(&one, 0, &other, 0, 32) {
-        io::write_all(STDOUT_FILENO, b" ");
-        hexadecimal::print(&one[..n]);
-        io::write_all(STDOUT_FILENO, b"\n");
-    } else {
-        io::write_all(STDOUT_FILENO, b" differs\n");
+    if !octets::same_at(&one, 0, &other, 0, 32) {
+        return out.write_all(b" differs\n");
     }
+    out.write_all(b" ")?;
+    hexadecimal::print(out, &one[..n])?;
+    out.write_all(b"\n")
 }

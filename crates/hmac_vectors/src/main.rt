@@ -7,13 +7,14 @@
 //   met; its byte i is (7 i + 13 n) mod 256. The macs are those of openssl; keys of 0 and 257 bytes are refused, R106.
 // tests/hmac_vectors.sh has openssl make all of them again.
 #![tactic(auto)]
+
 mod forms;
 
 ghost use Rattle.std.specs.Prelude.{◌≤◌, length};
 
 use forms::print_mac;
 use hmac::MOST_KEY;
-use libc::STDOUT_FILENO;
+use std::io::{self, BufWriter, Write};
 
 // The bytes of a mac.
 const MAC_SIZE: usize = 32;
@@ -21,68 +22,72 @@ const MAC_SIZE: usize = 32;
 // The most bytes of a message key-n.
 const MESSAGE_MOST: usize = 200;
 
-fn main() {
-    short_keys();
-    truncated();
-    long_keys();
-    lengths();
+fn main(rt: HostRuntime) -> io::Result<()> {
+    let mut out = BufWriter::new(rt.alloc(), io::writer(&rt))?;
+    short_keys(&mut out)?;
+    truncated(&mut out)?;
+    long_keys(&mut out)?;
+    lengths(&mut out)?;
+    out.flush()
 }
 
-fn short_keys() {
+fn short_keys<W: Write>(out: &mut W) -> io::Result<()> {
     let b = [0x0bu8; 20];
-    vector(b"rfc4231-1", &b, b"Hi There");
-    vector(b"rfc4231-2", b"Jefe", b"what do ya want for nothing?");
+    vector(out, b"rfc4231-1", &b, b"Hi There")?;
+    vector(out, b"rfc4231-2", b"Jefe", b"what do ya want for nothing?")?;
     let a = [0xaau8; 20];
     let d = [0xddu8; 50];
-    vector(b"rfc4231-3", &a, &d);
+    vector(out, b"rfc4231-3", &a, &d)?;
     let c = [0xcdu8; 50];
     vector(
+        out,
         b"rfc4231-4",
         b"\x01\x02\x03\x04\x05\x06\x07\x08\x09\x0a\x0b\x0c\x0d\x0e\x0f\x10\x11\x12\x13\x14\x15\x16\x17\x18\x19",
         &c,
-    );
+    )
 }
 
 // The RFC prints 128 bits of this mac.
-fn truncated() {
+fn truncated<W: Write>(out: &mut W) -> io::Result<()> {
     let c = [0x0cu8; 20];
-    io::write_all(STDOUT_FILENO, b"rfc4231-5");
-    print_mac(&c, b"Test With Truncation", 16);
+    out.write_all(b"rfc4231-5")?;
+    print_mac(out, &c, b"Test With Truncation", 16)
 }
 
 // Keys longer than a block.
-fn long_keys() {
+fn long_keys<W: Write>(out: &mut W) -> io::Result<()> {
     let a = [0xaau8; 131];
     vector(
+        out,
         b"rfc4231-6",
         &a,
         b"Test Using Larger Than Block-Size Key - Hash Key First",
-    );
+    )?;
     vector(
+        out,
         b"rfc4231-7",
         &a,
         b"This is a test using a larger than block-size key and a larger than block-size data. The key needs to be hashed before being used by the HMAC algorithm.",
-    );
+    )
 }
 
 // The line of one key and message.
-fn vector(name: &[u8], key: &[u8], message: &[u8])
+fn vector<W: Write>(out: &mut W, name: &[u8], key: &[u8], message: &[u8]) -> io::Result<()>
     requires { (length key.now ≤ 257) × (length message.now ≤ 200) }
 {
-    io::write_all(STDOUT_FILENO, name);
-    print_mac(key, message, MAC_SIZE);
+    out.write_all(name)?;
+    print_mac(out, key, message, MAC_SIZE)
 }
 
-fn lengths() {
-    let mut n: usize = 0;
-    while n <= MOST_KEY + 1 {
-        pattern(n);
-        n += 1;
+fn lengths<W: Write>(out: &mut W) -> io::Result<()> {
+    for n in 0..=MOST_KEY + 1 {
+        pattern(out, n)?;
     }
+    Ok(())
 }
 
 // The line key-n.
-fn pattern(n: usize)
+fn pattern<W: Write>(out: &mut W, n: usize) -> io::Result<()>
     requires { n ≤ 257 }
 {
     let mut key = [0u8; MOST_KEY + 1];
@@ -90,18 +95,15 @@ fn pattern(n: usize)
     let size = 7 * n % (MESSAGE_MOST + 1);
     fill(&mut key, 5 * n);
     fill(&mut message, 13 * n);
-    io::write_all(STDOUT_FILENO, b"key-");
-    io::print_decimal(STDOUT_FILENO, n as u64);
-    print_mac(&key[..n], &message[..size], MAC_SIZE);
+    write!(out, "key-{n}")?;
+    print_mac(out, &key[..n], &message[..size], MAC_SIZE)
 }
 
 // Sets byte i of d to (7 i + x) mod 256.
 fn fill(d: &mut [u8], x: usize)
     requires { (length d.old ≤ 257) × (x ≤ 65535) }
 {
-    let mut i: usize = 0;
-    while i < d.len() {
+    for i in 0..d.len() {
         d[i] = ((i * 7 + x) % 256) as u8;
-        i += 1;
     }
 }
