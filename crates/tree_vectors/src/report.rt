@@ -1,24 +1,20 @@
 // What the lines are made of.
-use libc::STDOUT_FILENO;
+use std::io::{self, Write};
 use tree::Answer;
 
 // A text, then a number in decimal.
-pub(crate) fn number(text: &[u8], n: usize) {
-    io::write_all(STDOUT_FILENO, text);
-    io::print_decimal(STDOUT_FILENO, n as u64);
+pub(crate) fn number<W: Write>(out: &mut W, text: &[u8], n: usize) -> io::Result<()> {
+    out.write_all(text)?;
+    write!(out, "{n}")
 }
 
 // An answer's number (R71), for 12 the level, and the end of the line.
-pub(crate) fn answer(a: Answer) {
-    number(b": ", tree::number(a) as usize);
+pub(crate) fn answer<W: Write>(out: &mut W, a: Answer) -> io::Result<()> {
+    number(out, b": ", tree::number(a) as usize)?;
     match a {
-        Answer::Taken => (),
-        Answer::WrongLength => (),
-        Answer::OutOfRange => (),
-        Answer::DataDiffers => {
-            io::write_all(STDOUT_FILENO, b" level -1");
-        }
-        Answer::LevelDiffers(l) => number(b" level ", l),
+        Answer::Taken | Answer::WrongLength | Answer::OutOfRange => (),
+        Answer::DataDiffers => out.write_all(b" level -1")?,
+        Answer::LevelDiffers(l) => number(out, b" level ", l)?,
     }
-    io::write_all(STDOUT_FILENO, b"\n");
+    out.write_all(b"\n")
 }
