@@ -2,6 +2,7 @@
 use crate::report;
 use model::{Done, OpenAnswer, Phase, ReadAnswer, State, StepAnswer, Written};
 use on_disk::Layout;
+use std::io::{self, Write};
 use volume::SECTOR_SIZE;
 
 // The logical sector that is written and read.
@@ -54,8 +55,7 @@ fn unsound() -> State {
 pub(crate) fn fresh(v: &mut [u8], st: &mut [u8]) -> State {
     octets::fill_at(v, 0, v.len(), 0);
     volume::format::format(v, layout());
-    let first = open(v, st);
-    first.state
+    open(v, st).state
 }
 
 pub(crate) fn open(v: &[u8], st: &mut [u8]) -> Opened {
@@ -78,7 +78,13 @@ pub(crate) fn write(s: State, st: &mut [u8], value: u8) -> Written {
 }
 
 // The batch flushed, and stepped until the volume is filling; each sector stored is printed where that is asked.
-pub(crate) fn commit(s: State, v: &mut [u8], st: &mut [u8], printed: bool) -> Course {
+pub(crate) fn commit<W: Write>(
+    out: &mut W,
+    s: State,
+    v: &mut [u8],
+    st: &mut [u8],
+    printed: bool,
+) -> io::Result<Course> {
     let flushed = volume::flush::flush(s);
     let mut state = flushed.state;
     let mut acknowledged: usize = 0;
@@ -87,31 +93,28 @@ pub(crate) fn commit(s: State, v: &mut [u8], st: &mut [u8], printed: bool) -> Co
         let stepped = volume::step::step(state, v, st);
         state = stepped.state;
         stores += 1;
-        let answer = stepped.answer;
         if printed {
-            print_store(answer);
+            print_store(out, stepped.answer)?;
         }
-        if model::acknowledges(answer) {
+        if model::acknowledges(stepped.answer) {
             acknowledged = stores;
         }
-        if ends(answer) {
+        if ends(stepped.answer) {
             break;
         }
     }
-    Course {
-        stores: stores,
-        acknowledged: acknowledged,
-        state: state,
-    }
+    Ok(Course {
+        stores,
+        acknowledged,
+        state,
+    })
 }
 
-fn print_store(a: StepAnswer) {
+fn print_store<W: Write>(out: &mut W, a: StepAnswer) -> io::Result<()> {
     match a {
-        StepAnswer::Stepped(done, _) => match done {
-            Done::Idle => report::text(b" none"),
-            Done::Stored(at) => report::number(b" ", at),
-        },
-        StepAnswer::Refused(r) => report::number(b" refused ", model::number(r) as usize),
+        StepAnswer::Stepped(Done::Idle, _) => report::text(out, b" none"),
+        StepAnswer::Stepped(Done::Stored(at), _) => report::number(out, b" ", at),
+        StepAnswer::Refused(r) => report::number(out, b" refused ", model::number(r) as usize),
     }
 }
 

@@ -1,16 +1,16 @@
 // What the lines are made of.
-use libc::STDOUT_FILENO;
+use std::io::{self, Write};
 
-pub(crate) fn text(t: &[u8]) {
-    io::write_all(STDOUT_FILENO, t);
+pub(crate) fn text<W: Write>(out: &mut W, t: &[u8]) -> io::Result<()> {
+    out.write_all(t)
 }
 
 // A text, then a number in decimal.
-pub(crate) fn number(t: &[u8], n: usize) {
-    io::write_all(STDOUT_FILENO, t);
-    io::print_decimal(STDOUT_FILENO, n as u64);
+pub(crate) fn number<W: Write>(out: &mut W, t: &[u8], n: usize) -> io::Result<()> {
+    out.write_all(t)?;
+    write!(out, "{n}")
 }
 
-pub(crate) fn end() {
-    io::write_all(STDOUT_FILENO, b"\n");
+pub(crate) fn end<W: Write>(out: &mut W) -> io::Result<()> {
+    out.write_all(b"\n")
 }
