@@ -1,5 +1,6 @@
 // The report of a check, as text, whose lines are defined in specs/Report.antt: R88 to R90.
 #![tactic(auto)]
+
 ghost use Rattle.std.specs.Prelude.{◌+◌, ◌*◌, ◌≤◌, true, [], ◌++◌, ◌≡◌, eqb, length};
 ghost use Rattle.io.specs.Counts.{IsPrefixLen};
 ghost use Rattle.octets.specs.Choice.{pick};
