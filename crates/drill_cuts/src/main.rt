@@ -5,11 +5,13 @@
 // come between the two stores of that tag. With one section, the second batch goes over the first in the journal; with two, a recovery may replay both. A drill
 // has as many steps in its last recovery as R40 counts stores, so it is done recovering only if that is the number.
 #![tactic(auto)]
+
 mod script;
 mod tally;
 
 use drill::Moment;
 use on_disk::Layout;
+use std::io::{self, Write};
 use tally::Tally;
 
 // The bytes of the larger volume, of a section, and of the longest script.
@@ -22,17 +24,18 @@ const SCRIPT: usize = 2048;
 // The bytes of the key.
 const KEY: usize = 20;
 
-fn main() {
+fn main(rt: HostRuntime) -> io::Result<()> {
     let mut v = [0u8; VOLUME];
     let mut st = [0u8; STAGING];
     let mut script = [0u8; SCRIPT];
     let key = [75u8; KEY];
-    drills(&[], false, &mut v, &mut st, &mut script, 1);
-    drills(&[], false, &mut v, &mut st, &mut script, 2);
-    drills(&key, false, &mut v, &mut st, &mut script, 1);
-    drills(&key, false, &mut v, &mut st, &mut script, 2);
-    drills(&[], true, &mut v, &mut st, &mut script, 1);
-    drills(&[], true, &mut v, &mut st, &mut script, 2);
+    let mut out = io::writer(&rt);
+    drills(&mut out, &[], false, &mut v, &mut st, &mut script, 1)?;
+    drills(&mut out, &[], false, &mut v, &mut st, &mut script, 2)?;
+    drills(&mut out, &key, false, &mut v, &mut st, &mut script, 1)?;
+    drills(&mut out, &key, false, &mut v, &mut st, &mut script, 2)?;
+    drills(&mut out, &[], true, &mut v, &mut st, &mut script, 1)?;
+    drills(&mut out, &[], true, &mut v, &mut st, &mut script, 2)
 }
 
 // r 0; T 32, N 16, P 16, or T 30, N 32, P 24, where the tag of sector 17 crosses
@@ -41,31 +44,28 @@ fn layout(crossing: bool, sections: usize) -> Layout {
     let width = if crossing { 30 } else { 32 };
     Layout {
         reserved: 0,
-        shift: shift,
-        width: width,
-        sections: sections,
+        shift,
+        width,
+        sections,
         provided: script::provided(crossing),
     }
 }
 
 // Every drill on a volume with so many sections. Here and below an empty key stands for calls without one.
-fn drills(
+fn drills<W: Write>(
+    out: &mut W,
     key: &[u8],
     crossing: bool,
     v: &mut [u8],
     st: &mut [u8],
     script: &mut [u8],
     sections: usize,
-) {
-    let last = script::stores(crossing);
+) -> io::Result<()> {
     let mut all = tally::none();
-    let mut stores = 0;
-    while stores <= last {
-        let next = recoveries(key, crossing, v, st, script, sections, stores, all);
-        all = next;
-        stores += 1;
+    for stores in 0..=script::stores(crossing) {
+        all = recoveries(key, crossing, v, st, script, sections, stores, all);
     }
-    tally::print(all, key, crossing, sections);
+    tally::print(out, all, key, crossing, sections)
 }
 
 // The drills with the first cut after so many stores.
@@ -79,13 +79,9 @@ fn recoveries(
     stores: usize,
     before: Tally,
 ) -> Tally {
-    let replayed = script::replayed(crossing, sections, stores);
     let mut all = before;
-    let mut again = 0;
-    while again <= replayed {
-        let next = one_drill(key, crossing, v, st, script, sections, stores, again, all);
-        all = next;
-        again += 1;
+    for again in 0..=script::replayed(crossing, sections, stores) {
+        all = one_drill(key, crossing, v, st, script, sections, stores, again, all);
     }
     all
 }
@@ -114,7 +110,7 @@ fn one_drill(
 
 // Plays a script without a key or with one, and gives what is live at its end.
 fn play(key: &[u8], g: Layout, script: &[u8], v: &mut [u8], st: &mut [u8]) -> Moment {
-    if key.len() == 0 {
+    if key.is_empty() {
         let played = drill::play(g, script, v, st);
         return played.last;
     }

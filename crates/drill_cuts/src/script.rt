@@ -125,10 +125,8 @@ fn recovery(script: &mut [u8], start: usize, steps: usize) -> usize {
 // So many steps.
 fn events(script: &mut [u8], start: usize, steps: usize) -> usize {
     let mut at = start;
-    let mut i = 0;
-    while i < steps {
+    for _ in 0..steps {
         at = event(script, at, STEP, 0, 0);
-        i += 1;
     }
     at
 }

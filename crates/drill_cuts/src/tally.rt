@@ -1,8 +1,8 @@
 // What the drills come to.
 use crate::script;
 use drill::{Live, Moment};
-use libc::STDOUT_FILENO;
 use model::{ReadAnswer, State};
+use std::io::{self, Write};
 use volume::SECTOR_SIZE;
 
 #[derive(Clone, Copy)]
@@ -25,7 +25,7 @@ pub(crate) fn none() -> Tally {
 }
 
 fn plus(a: usize, b: usize) -> usize {
-    std::num::wrapping_add_usize(a, b)
+    a.wrapping_add(b)
 }
 
 // One more drill, after which the volume was not done recovering.
@@ -80,19 +80,11 @@ pub(crate) fn add(
 fn agreeing(s: State, key: &[u8], crossing: bool, v: &[u8], st: &[u8], stores: usize) -> usize {
     let provided = script::provided(crossing);
     let mut n = 0;
-    let mut sector = 0;
-    while sector < provided {
-        if reads(
-            s,
-            key,
-            v,
-            st,
-            sector,
-            script::expected(crossing, sector, stores),
-        ) {
+    for sector in 0..provided {
+        let value = script::expected(crossing, sector, stores);
+        if reads(s, key, v, st, sector, value) {
             n = plus(n, 1);
         }
-        sector += 1;
     }
     n
 }
@@ -110,29 +102,35 @@ fn reads(s: State, key: &[u8], v: &[u8], st: &[u8], sector: usize, value: u8) ->
 }
 
 fn read(s: State, key: &[u8], v: &[u8], st: &[u8], sector: usize, bytes: &mut [u8]) -> ReadAnswer {
-    if key.len() == 0 {
+    if key.is_empty() {
         return volume::read::read(s, v, st, sector, bytes);
     }
     volume::read::read_keyed(s, v, st, sector, bytes, key)
 }
 
 // A line.
-pub(crate) fn print(t: Tally, key: &[u8], crossing: bool, sections: usize) {
-    if key.len() != 0 {
-        io::write_all(STDOUT_FILENO, b"with a key, ");
+pub(crate) fn print<W: Write>(
+    out: &mut W,
+    t: Tally,
+    key: &[u8],
+    crossing: bool,
+    sections: usize,
+) -> io::Result<()> {
+    if !key.is_empty() {
+        out.write_all(b"with a key, ")?;
     }
     if crossing {
-        io::write_all(STDOUT_FILENO, b"a tag across two sectors, ");
+        out.write_all(b"a tag across two sectors, ")?;
     }
-    number(b"sections ", sections);
-    number(b": drills ", t.drills);
-    number(b", done recovering ", t.settled);
-    number(b", sectors read ", t.read);
-    number(b", as the ledger has them ", t.agree);
-    io::write_all(STDOUT_FILENO, b"\n");
+    number(out, b"sections ", sections)?;
+    number(out, b": drills ", t.drills)?;
+    number(out, b", done recovering ", t.settled)?;
+    number(out, b", sectors read ", t.read)?;
+    number(out, b", as the ledger has them ", t.agree)?;
+    out.write_all(b"\n")
 }
 
-fn number(text: &[u8], n: usize) {
-    io::write_all(STDOUT_FILENO, text);
-    io::print_decimal(STDOUT_FILENO, n as u64);
+fn number<W: Write>(out: &mut W, text: &[u8], n: usize) -> io::Result<()> {
+    out.write_all(text)?;
+    write!(out, "{n}")
 }
