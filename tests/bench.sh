@@ -6,14 +6,14 @@ cd "$(dirname "$0")/.."
 
 . tests/common/archive.sh
 
-rt check bench >/dev/null
+(cd crates/bench && rt run) >/dev/null
 archive
 
 # Set, it would test another library.
 unset GAFFREEL_STATICLIB_DIR
 
 (cd rust && cargo build --quiet --release --offline -p gaffreel-tool)
-PATH=$PWD/target/bin:$PWD/target/rust/release:$PATH
+PATH=$PWD/crates/bench/out:$PWD/target/rust/release:$PATH
 
 work=$(mktemp -d)
 trap 'rm -rf "$work"' EXIT

@@ -1,4 +1,4 @@
-//! Links libgaffreel.a, which `rt staticlib gaffreel` writes to target/staticlib at the repository's top.
+//! Links libgaffreel.a, which `tools/archive.sh` writes to target/staticlib at the repository's top.
 //! GAFFREEL_STATICLIB_DIR names another folder to take it from.
 
 use std::env;
@@ -17,7 +17,7 @@ fn main() {
     println!("cargo::rerun-if-changed={}", library.display());
     if !library.is_file() {
         println!(
-            "cargo::error=there is no {}: run rt staticlib gaffreel first",
+            "cargo::error=there is no {}: run tools/archive.sh first",
             library.display()
         );
         return;
