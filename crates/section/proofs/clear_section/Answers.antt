@@ -1,4 +1,4 @@
-use Prim.Native.Nat.{ℕ, ◌-◌, ◌*◌}
+use Prim.Native.Nat.{ℕ, ◌*◌}
 use mathlib.Core.Path.{sym, ap, ◌∙◌, ◌≡◌}
 use native.Mathlib.Omega.{arith}
 use lib.Seq.{take_all}
@@ -14,12 +14,12 @@ loop-j-preserved c =
     let turn = c.loop-j in
     let t = c.args.t in
     elim c.if-j-lt-METADATA_SIZE.branch [
-      then-j-lt-METADATA_SIZE w ↦
-        let next = clear-metadata t turn.j turn.section c.if-j-lt-METADATA_SIZE.section (omega arith) turn.invariant.7 c.empty_metadata-metadata.result turn.invariant.5 turn.invariant.6 w.if-j-lt-METADATA_SIZE.true (w.section-is ∙ w.copy_at.ensures) in
-        (turn.invariant.0, turn.invariant.1, next.1 ∙ turn.invariant.2, next.1 ∙ turn.invariant.3, omega arith, turn.invariant.5, turn.invariant.6, next.0)
-    | else-j-lt-METADATA_SIZE w ↦
-        let next = clear-data t turn.j turn.section c.if-j-lt-METADATA_SIZE.section (omega arith) turn.invariant.7 w.if-j-lt-METADATA_SIZE.false (w.section-is ∙ w.fill_at.ensures) in
-        (turn.invariant.0, turn.invariant.1, next.1 ∙ turn.invariant.2, next.1 ∙ turn.invariant.3, omega arith, turn.invariant.5, turn.invariant.6, next.0)
+      | then-j-lt-METADATA_SIZE w ↦
+          let next = clear-metadata t turn.j turn.section c.if-j-lt-METADATA_SIZE.section (omega arith) turn.invariant.7 c.empty_metadata-metadata.result turn.invariant.5 turn.invariant.6 w.if-j-lt-METADATA_SIZE.true (w.section-is ∙ w.copy_at.ensures) in
+          (turn.invariant.0, turn.invariant.1, next.1 ∙ turn.invariant.2, next.1 ∙ turn.invariant.3, omega arith, turn.invariant.5, turn.invariant.6, next.0)
+      | else-j-lt-METADATA_SIZE w ↦
+          let next = clear-data t turn.j turn.section c.if-j-lt-METADATA_SIZE.section (omega arith) turn.invariant.7 w.if-j-lt-METADATA_SIZE.false (w.section-is ∙ w.fill_at.ensures) in
+          (turn.invariant.0, turn.invariant.1, next.1 ∙ turn.invariant.2, next.1 ∙ turn.invariant.3, omega arith, turn.invariant.5, turn.invariant.6, next.0)
     ]
 
 pub returns : goal.returns

@@ -1,4 +1,4 @@
-use Prim.Native.Nat.{ℕ, ◌-◌}
+use Prim.Native.Nat.{ℕ}
 use mathlib.Core.Path.{ap, ◌∙◌, ◌≡◌}
 use native.Mathlib.Omega.{arith}
 use Rattle.octets.specs.Sectors.{sector_at}
@@ -15,8 +15,8 @@ loop-j-preserved c =
     let turn = c.loop-j in
     let ids : ℕ → ℕ = λ i. id_of (sector_at c.args.section.now i) in
     elim c.if-greatest-id.branch [
-      then-greatest-id w ↦ (omega arith, omega arith, omega arith, omega arith, greatest-more turn.j turn.greatest c.id_at-id.result c.if-greatest-id.greatest ids turn.invariant.4 c.id_at-id.ensures (omega arith))
-    | else-greatest-id w ↦ (omega arith, omega arith, omega arith, omega arith, greatest-more turn.j turn.greatest c.id_at-id.result c.if-greatest-id.greatest ids turn.invariant.4 c.id_at-id.ensures (omega arith))
+      | then-greatest-id w ↦ (omega arith, omega arith, omega arith, omega arith, greatest-more turn.j turn.greatest c.id_at-id.result c.if-greatest-id.greatest ids turn.invariant.4 c.id_at-id.ensures (omega arith))
+      | else-greatest-id w ↦ (omega arith, omega arith, omega arith, omega arith, greatest-more turn.j turn.greatest c.id_at-id.result c.if-greatest-id.greatest ids turn.invariant.4 c.id_at-id.ensures (omega arith))
     ]
 
 pub returns : goal.returns

@@ -1,4 +1,4 @@
-use Prim.Native.Nat.{ℕ, ◌-◌}
+use Prim.Native.Nat.{ℕ}
 use mathlib.Core.Path.{refl, sym, ap, ◌∙◌, ◌≡◌}
 use native.Mathlib.Omega.{arith}
 use lib.ListN.{length}
@@ -38,18 +38,18 @@ loop-i-preserved c =
     let g = c.args.g in
     let section = c.args.section.now in
     elim c.if-sector.branch [
-      then-sector+else-left-home w ↦ (
-      omega arith,
-      omega arith,
-      omega arith,
-      omega (arith, w.home_stores-home.ensures.0 (entry_of g.width section turn.i) (sym c.entry_sector-sector.ensures), w.if-left-home.false, w.left-is, turn.invariant.3, count-used g c.args.from.section section turn.i (λ q. w.if-sector.true (c.entry_sector-sector.ensures ∙ q))),
-    )
-    | else-sector w ↦ (
-      omega arith,
-      omega arith,
-      omega arith,
-      omega (arith, w.left-is, turn.invariant.3, count-unused g c.args.from.section section turn.i (sym c.entry_sector-sector.ensures ∙ w.if-sector.false)),
-    )
+      | then-sector+else-left-home w ↦ (
+        omega arith,
+        omega arith,
+        omega arith,
+        omega (arith, w.home_stores-home.ensures.0 (entry_of g.width section turn.i) (sym c.entry_sector-sector.ensures), w.if-left-home.false, w.left-is, turn.invariant.3, count-used g c.args.from.section section turn.i (λ q. w.if-sector.true (c.entry_sector-sector.ensures ∙ q))),
+      )
+      | else-sector w ↦ (
+        omega arith,
+        omega arith,
+        omega arith,
+        omega (arith, w.left-is, turn.invariant.3, count-unused g c.args.from.section section turn.i (sym c.entry_sector-sector.ensures ∙ w.if-sector.false)),
+      )
     ]
 
 pub returns : goal.returns

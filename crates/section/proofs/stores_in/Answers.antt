@@ -1,4 +1,4 @@
-use Prim.Native.Nat.{ℕ, ◌-◌}
+use Prim.Native.Nat.{ℕ}
 use mathlib.Core.Path.{refl, sym, ap, ◌∙◌, ◌≡◌}
 use native.Mathlib.Omega.{arith}
 use lib.ListN.{length}
@@ -28,26 +28,26 @@ loop-i-preserved c =
     let section = c.args.section.now in
     let i = turn.i in
     elim c.if-sector.branch [
-      then-sector w ↦ (
-      omega arith,
-      omega arith,
-      omega arith,
-      omega (arith, w.home_stores-stores.ensures.2, w.stores-is, turn.invariant.3),
-      λ k. omega (
-        arith,
-        w.home_stores-stores.ensures.0 (entry_of g.width section i) (sym c.entry_sector-sector.ensures),
-        w.stores-is,
-        turn.invariant.4 k,
-        count-used g k section i (λ q. w.if-sector.true (c.entry_sector-sector.ensures ∙ q)),
-      ),
-    )
-    | else-sector w ↦ (
-      omega arith,
-      omega arith,
-      omega arith,
-      omega arith,
-      λ k. omega (arith, w.stores-is, turn.invariant.4 k, count-unused g k section i (sym c.entry_sector-sector.ensures ∙ w.if-sector.false)),
-    )
+      | then-sector w ↦ (
+        omega arith,
+        omega arith,
+        omega arith,
+        omega (arith, w.home_stores-stores.ensures.2, w.stores-is, turn.invariant.3),
+        λ k. omega (
+          arith,
+          w.home_stores-stores.ensures.0 (entry_of g.width section i) (sym c.entry_sector-sector.ensures),
+          w.stores-is,
+          turn.invariant.4 k,
+          count-used g k section i (λ q. w.if-sector.true (c.entry_sector-sector.ensures ∙ q)),
+        ),
+      )
+      | else-sector w ↦ (
+        omega arith,
+        omega arith,
+        omega arith,
+        omega arith,
+        λ k. omega (arith, w.stores-is, turn.invariant.4 k, count-unused g k section i (sym c.entry_sector-sector.ensures ∙ w.if-sector.false)),
+      )
     ]
 
 pub returns : goal.returns

@@ -23,7 +23,6 @@ tag_piece-requires c = (
   c.requires.0.layout,
   c.requires.0.low,
   goes_on c.args.g c.args.section.now c.args.i c.args.sector c.args.h c.requires.0 (λ q. omega (arith, q, c.if-h-eq0.false)),
-
 )
 
 pub tag_store-requires : goal.tag_store-requires

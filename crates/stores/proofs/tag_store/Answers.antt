@@ -16,5 +16,4 @@ returns c = (
   refl,
   part-replaced c.args.v.now (c.args.p.byte / 512) (c.args.p.byte % 512) (part c.args.tag.now c.args.p.from c.args.p.size) c.args.out.now c.copy_at.new.d c.copy_at-2.new.d
       c.requires.0 c.requires.3 c.copy_at.ensures c.copy_at-2.ensures,
-
 )

@@ -13,7 +13,6 @@ staged_stores-requires c = (
   state-layout c.args.s c.requires,
   (state-writing-back c.args.s c.requires _ _ c.in-WritingBack.is).1,
   staging-length c.args.s.layout c.args.st.now (sym c.staging_ok.ensures ∙ c.if-not-staging_ok.false),
-
 )
 
 pub returns-in-Filling : goal.returns-in-Filling

@@ -23,7 +23,6 @@ tag_piece-p-requires c = (
   c.requires.0.layout,
   c.requires.0.low,
   goes_on c.args.g c.args.section.now c.args.i c.args.sector c.args.h c.requires.0 (λ q. omega (arith, q, c.if-h-eq0.false)),
-
 )
 
 pub copy_at-requires : goal.copy_at-requires

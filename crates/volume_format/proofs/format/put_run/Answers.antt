@@ -16,7 +16,6 @@ put_tags-requires c = (
   omega (arith, first-high c.args.g c.requires.0 c.args.q c.run_length.result (omega arith) c.run_length.ensures.0, run-high c.args.g c.requires.0),
   omega (arith, tags-room c.args.g c.requires.0 c.args.n (omega arith)),
   c.requires.4,
-
 )
 
 pub overflow_mul-tags : goal.overflow_mul-tags

@@ -1,5 +1,5 @@
 use Rattle.layout.proofs.Sizes.{width-high}
-use Prim.Native.Nat.{ℕ, ◌+◌, ◌-◌, ◌*◌}
+use Prim.Native.Nat.{ℕ, ◌+◌, ◌*◌}
 use mathlib.Core.Path.{refl, ap, ◌∙◌, ◌≡◌}
 use native.Mathlib.Omega.{arith}
 use Rattle.volume_format.proofs.Formats.{chunk-fits, patch-nil, chunk-turn, run-size}

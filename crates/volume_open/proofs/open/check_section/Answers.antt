@@ -1,14 +1,10 @@
-use Prim.Native.Nat.{ℕ, ◌-◌}
-use mathlib.Core.List.{List}
+use Prim.Native.Nat.{ℕ}
 use mathlib.Core.Path.{refl, sym, ap, ◌∙◌, ◌≡◌}
 use native.Mathlib.Omega.{arith}
 use Rattle.layout.proofs.Sizes.{width-high}
 use Rattle.on_disk.specs.Layout.{entry_count}
-use Rattle.on_disk.specs.Section.{entry_of}
 use Rattle.octets.specs.Lists.{collect}
-use Rattle.model.specs.Journal.{Replayed, used_entry}
 use Rattle.sound.specs.Rule.{tag_by}
-use Rattle.on_disk.specs.declared.Layout.{Layout}
 use Rattle.volume_open.proofs.Checks.{used_at, verdict_of, entries-more, entries-stop}
 use Rattle.volume_open.proofs.open.check_section.Goals as goal
 

@@ -18,7 +18,6 @@ loop-i-preserved c = (
   c.loop-i.invariant.2,
   omega arith,
   c.loop-i.invariant.4 ∙ newest-miss c.args.t c.args.c c.args.sector c.loop-i.i c.args.st.now (omega arith) (λ q. c.if-entry_sector-sector.false (c.entry_sector.ensures ∙ q)),
-
 )
 
 pub returns : goal.returns

@@ -1,5 +1,5 @@
-use Prim.Native.Nat.{suc, ◌+◌, ◌-◌}
-use mathlib.Core.Bool.{false, not}
+use Prim.Native.Nat.{suc, ◌+◌}
+use mathlib.Core.Bool.{not}
 use mathlib.Core.Path.{◌≡◌, sym, ap, ◌∙◌}
 use native.Mathlib.Omega.{arith}
 use borrow.Author.Count.{below_more}
