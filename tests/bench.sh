@@ -6,7 +6,7 @@ cd "$(dirname "$0")/.."
 
 . tests/common/archive.sh
 
-(cd crates/bench && rt run) >/dev/null
+(cd crates/bench && rt run <stdin) >/dev/null
 archive
 
 # Set, it would test another library.
