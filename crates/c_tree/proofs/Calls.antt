@@ -21,7 +21,7 @@ use Rattle.tree.specs.Answer.{answer_of}
 use Rattle.tree.specs.Build.{BuildOutcome, outcome_of, build_of}
 use Rattle.tree.specs.Verify.{verify_of}
 use Rattle.c_numbers.specs.Sizes.{level_size}
-use Rattle.c_numbers.specs.Outcome.{Outcome, done, wrong_length, refused_with, answering}
+use Rattle.c_numbers.specs.Outcome.{done, wrong_length, refused_with, answering}
 use Rattle.c_numbers.proofs.Outcomes.{length-wrong, length-right, number-told, answering-refused, answering-done}
 use Rattle.c_tree.specs.HashTree.{refused_build, build_call, level_buffer_of, verify_call}
 
