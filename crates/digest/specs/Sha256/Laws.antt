@@ -4,16 +4,16 @@ use Rattle.std.proofs.Common.{add-zero, add-suc, arith, sym, ◌∙◌, append_a
 use Rattle.std.proofs.Math.Path.{ap}
 use Rattle.std.proofs.Math.ListN.{length, length-append, length-drop}
 use Rattle.std.proofs.Math.Seq.{drop-append-le, take_at}
-use Rattle.octets.specs.Numbers.{be}
-use Rattle.octets.proofs.Numbers.{length-be}
-use Rattle.octets.proofs.Parts.{part-append-left}
+use Rattle.octets.specs.Numbers.{Bytes, be}
+use Rattle.octets.proofs.Numbers.{length-be, bytes-be, bytes-nil}
+use Rattle.octets.proofs.Parts.{part-append-left, bytes-append}
 use Rattle.digest.specs.declared.State.{State}
 use Rattle.compression.specs.Compression.{added_of, compress_of, hash_of}
 use Rattle.digest.specs.Padding.{bytes_of}
 use Rattle.compression.specs.Constants.{initial_hash}
 use Rattle.digest.specs.Pieces.{fresh_of, held_of, whole_of, filled_of, absorb_of}
 
--- ---- lengths
+-- ---- lengths and bytes
 
 pub length-hash : (n : ℕ) (h m : List ℕ) → length h ≡ 8 → length (hash_of n h m) ≡ 8
 unfolding hash_of compress_of added_of
@@ -26,6 +26,11 @@ length-bytes_of [] = refl
 length-bytes_of (w ∷ h) =
     let front : length (be 4 w) ≡ 4 = length-be 4 w in
     rw (length-append, front, length-bytes_of h) (omega arith)
+
+pub bytes-bytes_of : (h : List ℕ) → Bytes (bytes_of h)
+unfolding bytes_of
+bytes-bytes_of [] = bytes-nil
+bytes-bytes_of (w ∷ h) = search (bytes-append, bytes-be 4 w, bytes-bytes_of h)
 
 -- ---- blocks
 

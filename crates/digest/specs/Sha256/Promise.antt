@@ -5,15 +5,13 @@ use Rattle.std.proofs.Common.{zero-add, arith, ap, ◌∙◌, length-append, le-
 use mathlib.Core.List.{List, [], ◌∷◌, ◌++◌, append_assoc, append-nil, flatten}
 use Rattle.octets.specs.Answer.{taken}
 use Rattle.octets.specs.Numbers.{Bytes}
-use Rattle.octets.proofs.Numbers.{bytes-nil, bytes-be}
-use Rattle.octets.proofs.Parts.{bytes-append}
 use Rattle.digest.specs.declared.State.{State}
 use Rattle.compression.specs.Constants.{initial_hash}
 use Rattle.compression.specs.Compression.{hash_of}
 use Rattle.digest.specs.Padding.{padding_of, bytes_of}
 use Rattle.digest.specs.Pieces.{limit, fresh_of, absorb_of, refused_piece_of, update_of, close_of, finish_of, digest_of}
 use Rattle.digest.specs.Sha256.{digest_size, sha256, padded_of}
-use Rattle.digest.specs.Sha256.Laws.{length-hash, length-bytes_of, absorb-append, words-absorb, fresh-holds-nothing}
+use Rattle.digest.specs.Sha256.Laws.{length-hash, length-bytes_of, bytes-bytes_of, absorb-append, words-absorb, fresh-holds-nothing}
 
 -- ---- the digest's bytes
 
@@ -24,12 +22,8 @@ length-sha256 m =
     rw (length-bytes_of, words)
 
 pub bytes-sha256 : (m : List ℕ) → Bytes (sha256 m)
-unfolding sha256 bytes_of
-bytes-sha256 m = go _
-  where
-    go : (h : List ℕ) → Bytes (bytes_of h)
-    go [] = bytes-nil
-    go (w ∷ h) = bytes-append (bytes-be 4 w) (go h)
+unfolding sha256
+bytes-sha256 m = bytes-bytes_of _
 
 -- ---- pieces
 
