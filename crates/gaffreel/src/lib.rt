@@ -7,7 +7,7 @@
 #![tactic(auto)]
 
 pub mod hash_tree;
-pub mod hmac;
+pub mod hmac_sha256;
 pub mod keyed;
 pub mod sha256;
 pub mod volumes;
