@@ -3,8 +3,8 @@
 ghost use Rattle.std.specs.Prelude.{true, ◌≡◌, ◌*◌, ◌≤◌, ◌<◌, length};
 ghost use Rattle.octets.specs.Choice.{first_met};
 ghost use Rattle.octets.specs.Sectors.{sector_size};
-ghost use Rattle.on_disk.specs.Layout.{entry_count, section_size, needed, layout_ok};
-ghost use Rattle.on_disk.specs.Section.{entry_of};
+ghost use Rattle.on_disk.specs.Layout.{most_width, entry_count, section_size, needed, layout_ok};
+ghost use Rattle.on_disk.specs.Section.{entry_of, empty_section};
 ghost use Rattle.model.specs.Journal.{used_entry, used_of, replay};
 ghost use Rattle.model.specs.Tag.{tag_of};
 ghost use Rattle.model.specs.Refusal.{open_answer};
@@ -99,6 +99,15 @@ fn phase_for(stores: usize) -> Phase
     Phase::Recovering(0)
 }
 
+// Makes the staging loan an empty batch. Not inlined: the sector that it fills would lie on the stack below the check of each tag.
+#[inline(never)]
+fn clear_staging(st: &mut [u8], width: usize)
+    requires { (width ≤ most_width) × (length st.old ≡ section_size width * sector_size) }
+    ensures { st.new ≡ empty_section width }
+{
+    section::clear_section(st, width);
+}
+
 // Opens a volume whose superblock and length are as they must be.
 fn open_journal(rule: Rule, v: &[u8], st: &mut [u8], g: Layout) -> OpenAnswer
     requires { (layout_ok g ≡ true) × (needed g * sector_size ≤ length v.now) × (first_met (superblock_rows g g.reserved v.now) passed ≡ passed) }
@@ -123,7 +132,7 @@ fn open_journal(rule: Rule, v: &[u8], st: &mut [u8], g: Layout) -> OpenAnswer
         Check::Passed => {}
         Check::Refused(refusal) => return OpenAnswer::Refused(refusal),
     }
-    section::clear_section(st, g.width);
+    clear_staging(st, g.width);
     let stores = sections::count_steps(&ids, v, g);
     let opened = State {
         layout: g,

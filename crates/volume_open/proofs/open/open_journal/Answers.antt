@@ -38,8 +38,8 @@ returns-in-Refused c =
     c.first_misplaced-misplaced.result (c.first_misplaced-misplaced.ensures ∙ misplaced-first a.g a.v.now c.requires.0 _ c.scan.ensures) (sections-low a.g c.requires.0) c.if-misplaced-count.false
     c.check_replay-check.result c.check_replay-check.ensures _ c.in-Refused.is
 
-pub clear_section-requires : goal.clear_section-requires
-clear_section-requires c =
+pub clear_staging-requires : goal.clear_staging-requires
+clear_staging-requires c =
     let a = c.args in
     (width-high a.g c.requires.0, staging-length a.g a.st.now (sym c.staging_ok.ensures ∙ c.if-not-staging_ok.false))
 
@@ -53,5 +53,5 @@ returns c =
     c.greatest_id-greatest.result c.greatest_id-greatest.ensures c.if-greatest.false
     c.first_misplaced-misplaced.result (c.first_misplaced-misplaced.ensures ∙ misplaced-first a.g a.v.now c.requires.0 _ c.scan.ensures) (sections-low a.g c.requires.0) c.if-misplaced-count.false
     c.check_replay-check.result c.check_replay-check.ensures c.in-Passed.is
-    c.clear_section.new.section c.clear_section.ensures
+    c.clear_staging.new.st c.clear_staging.ensures
     c.count_steps-stores.result c.count_steps-stores.ensures c.phase_for.result c.phase_for.ensures
