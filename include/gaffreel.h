@@ -50,7 +50,7 @@
  *     gaffreel_volume_read          2,432
  *     gaffreel_volume_verify        2,240
  *     gaffreel_volume_format_keyed  3,264
- *     gaffreel_volume_open_keyed    2,368
+ *     gaffreel_volume_open_keyed    3,648
  *     gaffreel_volume_write_keyed   2,496
  *     gaffreel_volume_read_keyed    2,496
  *     gaffreel_volume_verify_keyed  2,240
