@@ -24,8 +24,8 @@ pub returns-then-misplaced-count : goal.returns-then-misplaced-count
 returns-then-misplaced-count c =
     let a = c.args in
     section-misplaced (tag_by a.rule) a.g a.g.reserved a.v.now a.st.now c.requires.2 (sym c.staging_ok.ensures ∙ c.if-not-staging_ok.false)
-    c.greatest_id-greatest.result c.greatest_id-greatest.ensures c.if-greatest.false
-    c.first_misplaced-misplaced.result (c.first_misplaced-misplaced.ensures ∙ misplaced-first a.g a.v.now c.requires.0 _ c.scan.ensures) c.if-misplaced-count.true
+    c.greatest_id-greatest.result c.greatest_id-greatest.ensures
+    c.if-greatest.false c.first_misplaced-misplaced.result (c.first_misplaced-misplaced.ensures ∙ misplaced-first a.g a.v.now c.requires.0 _ c.scan.ensures) c.if-misplaced-count.true
 
 pub check_replay-check-requires : goal.check_replay-check-requires
 check_replay-check-requires c = (c.requires.0, c.requires.1, c.scan.ensures)
