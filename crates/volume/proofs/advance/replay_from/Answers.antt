@@ -20,14 +20,14 @@ loop-i-init c =
 pub sector_of-sector-requires : goal.sector_of-sector-requires
 sector_of-sector-requires c =
     let u = c.loop-i.invariant.3 in
-    let l = is-next u c.if-x-g.false in
-    ((ok-here u).0, (ok-here u).1, l, (there u l).1.entry)
+    let entry = is-next u c.if-x-g.false in
+    ((ok-here u).0, (ok-here u).1, entry, (there u entry).1.entry)
 
 pub replayed_part-p-requires : goal.replayed_part-p-requires
 replayed_part-p-requires c =
     let u = c.loop-i.invariant.3 in
-    let l = is-next u c.if-x-g.false in
-    (entry_here u l c.sector_of-sector.result c.sector_of-sector.ensures c.if-g-sector.false, (ok-here u).1, l)
+    let more = is-next u c.if-x-g.false in
+    (entry_here u more c.sector_of-sector.result c.sector_of-sector.ensures c.if-g-sector.false, (ok-here u).1, more)
 
 pub next_location-next-requires : goal.next_location-next-requires
 next_location-next-requires c =
