@@ -4,32 +4,21 @@ use mathlib.Core.Bool.{Bool}
 use mathlib.Core.List.{List, [], ◌∷◌}
 use mathlib.Core.Path.{◌≡◌, refl, sym, ap, ◌∙◌}
 use lib.Dec.{eqb}
+use Rattle.std.proofs.Common.{Option, Result, Ok, Err}
 use Rattle.octets.specs.Answer.{Answer, taken, refused}
 use Rattle.octets.specs.Answer as octets
 use Rattle.octets.specs.Choice.{pick, first_met}
-use Rattle.model.specs.declared.Done.{Done}
-use Rattle.model.specs.declared.FlushAnswer.{FlushAnswer}
-use Rattle.model.specs.declared.FlushAnswer.TheVariants as flushing
-use Rattle.model.specs.declared.FormatAnswer.{FormatAnswer}
-use Rattle.model.specs.declared.FormatAnswer.TheVariants as formatting
+use Rattle.model.specs.declared.Flushed.{Flushed}
+use Rattle.model.specs.declared.Flushed.TheVariants.{Acknowledged, Begun}
+use Rattle.model.specs.declared.Held.{Held}
 use Rattle.on_disk.specs.declared.Layout.{Layout}
-use Rattle.model.specs.declared.OpenAnswer.{OpenAnswer}
-use Rattle.model.specs.declared.OpenAnswer.TheVariants as opening
-use Rattle.model.specs.declared.QueryAnswer.{QueryAnswer}
-use Rattle.model.specs.declared.QueryAnswer.TheVariants as querying
-use Rattle.model.specs.declared.ReadAnswer.{ReadAnswer}
-use Rattle.model.specs.declared.ReadAnswer.TheVariants as reading
+use Rattle.model.specs.declared.Opened.{Opened}
 use Rattle.model.specs.declared.Refusal.{Refusal}
 use Rattle.model.specs.declared.Refusal.TheVariants.{Malformed, Parameter, Superblock, Invalid, Short, Range, StagedRange, JournalRange, TagMismatch, JournalTagMismatch, Full, NotNow, Exhausted, Misplaced}
 use Rattle.model.specs.declared.Says.{Says}
 use Rattle.model.specs.declared.State.{State}
-use Rattle.model.specs.declared.StepAnswer.{StepAnswer}
-use Rattle.model.specs.declared.StepAnswer.TheVariants as stepping
-use Rattle.model.specs.declared.VerifyAnswer.{VerifyAnswer}
-use Rattle.model.specs.declared.VerifyAnswer.TheVariants as verifying
-use Rattle.model.specs.declared.WriteAnswer.{WriteAnswer}
-use Rattle.model.specs.declared.WriteAnswer.TheVariants as writing
-use Rattle.model.specs.Refusal.{refusal_of, format_answer, open_answer, query_answer, write_answer, flush_answer, step_answer, read_answer, verify_answer, AnswersDiffer}
+use Rattle.model.specs.declared.Step.{Step}
+use Rattle.model.specs.Refusal.{refusal_of, answer_by, at_once, AnswersDiffer}
 
 -- ---- a refusal
 
@@ -72,58 +61,30 @@ told_back (Misplaced k) = refl
 
 -- ---- an answer
 
--- what a call gives, or its refusal, as an answer of the code
-abbrev from : {A : Type 0} {B : Type 0} → (A → B) → (Refusal → B) → Answer ℕ A → B
-from give refuse (taken x) = give x
-from give refuse (refused r) = refuse (told r)
+-- what a call hands back, made of its answer
+abbrev from : {A B : Type 0} → (B → A) → Answer ℕ B → Result A Refusal
+from give (taken x) = Ok (give x)
+from give (refused r) = Err (told r)
 
--- an answer that can be told from number and values is told apart by them
-module _ {A B : Type 0} (to : B → Answer ℕ A) (of : Answer ℕ A → B) (back : (b : B) → of (to b) ≡ b) where
-  apart : (a b : B) → to a ≡ to b → a ≡ b
-  apart a b e = sym (back a) ∙ ap of e ∙ back b
+-- a call that gives what can be told from its answer is told by its answer
+module _ {A B : Type 0} (of : A → B) (give : B → A) (back : (x : A) → give (of x) ≡ x) where
+  returned : (a : Result A Refusal) → from give (answer_by of a) ≡ a
+  returned (Ok x) = ap Ok (back x)
+  returned (Err r) = ap Err (told_back r)
 
-format_back : (a : FormatAnswer) → from (λ (x : Unit {0}). formatting.Formatted) formatting.Refused (format_answer a) ≡ a
-format_back formatting.Formatted = refl
-format_back (formatting.Refused r) = ap formatting.Refused (told_back r)
+  apart : (a b : Result A Refusal) → answer_by of a ≡ answer_by of b → a ≡ b
+  apart a b e = sym (returned a) ∙ ap (from give) e ∙ returned b
 
-open-back : (a : OpenAnswer) → from (λ (x : State × ℕ). opening.Opened x.0 x.1) opening.Refused (open_answer a) ≡ a
-open-back (opening.Opened s n) = refl
-open-back (opening.Refused r) = ap opening.Refused (told_back r)
-
-query-back : (a : QueryAnswer) → from (λ (x : Layout × ℕ). querying.Holds x.0 x.1) querying.Refused (query_answer a) ≡ a
-query-back (querying.Holds g n) = refl
-query-back (querying.Refused r) = ap querying.Refused (told_back r)
-
-write-back : (a : WriteAnswer) → from (λ (x : Unit {0}). writing.Taken) writing.Refused (write_answer a) ≡ a
-write-back writing.Taken = refl
-write-back (writing.Refused r) = ap writing.Refused (told_back r)
-
-flush-back : (a : FlushAnswer) → from (λ (x : Bool). pick x flushing.Acknowledged flushing.Begun) flushing.Refused (flush_answer a) ≡ a
-flush-back flushing.Acknowledged = refl
-flush-back flushing.Begun = refl
-flush-back (flushing.Refused r) = ap flushing.Refused (told_back r)
-
-step_back : (a : StepAnswer) → from (λ (x : Done × Says). stepping.Stepped x.0 x.1) stepping.Refused (step_answer a) ≡ a
-step_back (stepping.Stepped d x) = refl
-step_back (stepping.Refused r) = ap stepping.Refused (told_back r)
-
-read_back : (a : ReadAnswer) → from (λ (x : Unit {0}). reading.Found) reading.Refused (read_answer a) ≡ a
-read_back reading.Found = refl
-read_back (reading.Refused r) = ap reading.Refused (told_back r)
-
-verify-back : (a : VerifyAnswer) → from (λ (x : Unit {0}). verifying.Fits) verifying.Refused (verify_answer a) ≡ a
-verify-back verifying.Fits = refl
-verify-back (verifying.Refused r) = ap verifying.Refused (told_back r)
+flushed_back : (x : Flushed) → pick (at_once x) Acknowledged Begun ≡ x
+flushed_back Acknowledged = refl
+flushed_back Begun = refl
 
 pub answers-differ : AnswersDiffer
 answers-differ =
     record {
-      format = apart format_answer (from (λ (x : Unit {0}). formatting.Formatted) formatting.Refused) format_back;
-      opens = apart open_answer (from (λ (x : State × ℕ). opening.Opened x.0 x.1) opening.Refused) open-back;
-      query = apart query_answer (from (λ (x : Layout × ℕ). querying.Holds x.0 x.1) querying.Refused) query-back;
-      write = apart write_answer (from (λ (x : Unit {0}). writing.Taken) writing.Refused) write-back;
-      flush = apart flush_answer (from (λ (x : Bool). pick x flushing.Acknowledged flushing.Begun) flushing.Refused) flush-back;
-      step = apart step_answer (from (λ (x : Done × Says). stepping.Stepped x.0 x.1) stepping.Refused) step_back;
-      read = apart read_answer (from (λ (x : Unit {0}). reading.Found) reading.Refused) read_back;
-      verify = apart verify_answer (from (λ (x : Unit {0}). verifying.Fits) verifying.Refused) verify-back;
+      plain = apart (λ (x : Unit {0}). x) (λ (x : Unit {0}). x) (λ x. refl);
+      opens = apart (λ (o : Opened). (o.state, o.stores)) (λ (x : State × ℕ). record { state = x.0; stores = x.1 }) (λ x. refl);
+      query = apart (λ (h : Held). (h.layout, h.staging)) (λ (x : Layout × ℕ). record { layout = x.0; staging = x.1 }) (λ x. refl);
+      flush = apart at_once (λ (x : Bool). pick x Acknowledged Begun) flushed_back;
+      step = apart (λ (x : Step). (x.stored, x.says)) (λ (x : Option ℕ × Says). record { stored = x.0; says = x.1 }) (λ x. refl);
     }

@@ -4,6 +4,7 @@ use mathlib.Core.Bool.{Bool, true, false}
 use mathlib.Core.Path.{◌≡◌, refl, sym, ap, ◌∙◌, subst}
 use mathlib.Core.Logic.{◌≢◌}
 use mathlib.Core.List.{List, [], ◌∷◌, ◌++◌}
+use Rattle.std.proofs.Common.{Some}
 use native.Mathlib.Omega.{arith}
 use native.Mathlib.Decide.{dec_lt, ℕ_discrete}
 use native.Mathlib.Numerals.{add-one}
@@ -37,7 +38,6 @@ use Rattle.on_disk.specs.declared.Layout.{Layout}
 use Rattle.model.specs.declared.Phase.{Phase}
 use Rattle.model.specs.declared.Phase.TheVariants.{Filling, Committing, WritingBack, Recovering}
 use Rattle.model.specs.declared.State.{State}
-use Rattle.model.specs.declared.Done.TheVariants.{Stored}
 use Rattle.model.specs.declared.Says.TheVariants as saying
 
 pub never : {A : Type 0} → ◌≡◌ {A = Bool} false true → A
@@ -152,7 +152,7 @@ module _ (tag : Tag) (g : Layout) (v₀ : List ℕ) (X : Premises tag g v₀) wh
   home-stored : (s : State) (v st : List ℕ) (e : Entry) (h : ℕ) (p : Phase) (left : List ℕ)
       → home_step s v st e h false p left
       ≡ record {
-        answer = taken (Stored (home_store s.layout v e h).at, saying.Nothing);
+        answer = taken (Some (home_store s.layout v e h).at, saying.Nothing);
         state = in_phase s p;
         effect = one (home_store s.layout v e h);
         staging = st;
@@ -169,7 +169,7 @@ module _ (tag : Tag) (g : Layout) (v₀ : List ℕ) (X : Premises tag g v₀) wh
   home-filled : (s : State) (v st : List ℕ) (e : Entry) (h : ℕ) (p : Phase) (left : List ℕ)
       → home_step s v st e h true p left
       ≡ record {
-        answer = taken (Stored (home_store s.layout v e h).at, saying.Filling);
+        answer = taken (Some (home_store s.layout v e h).at, saying.Filling);
         state = record { layout = s.layout; phase = Filling; count = 0; id = s.id };
         effect = one (home_store s.layout v e h);
         staging = left;

@@ -6,11 +6,9 @@
 -- one_more o           : what steps that left o and one step more leave
 -- advance_from n o     : what steps that left o and n steps more leave
 -- advance_of n s v st  : the call: n steps
-use Rattle.std.specs.Prelude.{ℕ, zero, suc, ◌+◌, Bool, true, false, List}
+use Rattle.std.specs.Prelude.{Option, Some, None, ℕ, zero, suc, ◌+◌, Bool, true, false, List}
 use Rattle.octets.specs.Answer.{Answer, taken, refused}
 use Rattle.octets.specs.Choice.{pick}
-use Rattle.model.specs.declared.Done.{Done}
-use Rattle.model.specs.declared.Done.TheVariants.{Idle, Stored}
 use Rattle.model.specs.declared.Says.{Says}
 use Rattle.model.specs.declared.Says.TheVariants.{Nothing}
 use Rattle.model.specs.declared.State.{State}
@@ -19,7 +17,7 @@ use Rattle.model.specs.Step.{step_of}
 use Rattle.model.specs.StepResult.{step_acknowledges, StepResult}
 
 pub record AdvanceResult : Type 0 where
-  pub answer : Answer ℕ (Done × Says)
+  pub answer : Answer ℕ (Option ℕ × Says)
   pub done : ℕ
   pub acknowledged : Bool
   pub state : State
@@ -28,12 +26,12 @@ pub record AdvanceResult : Type 0 where
 
 -- nothing was done, and nothing is said
 abbrev pub no_step : State → List ℕ → List ℕ → AdvanceResult
-no_step s v st = record { answer = taken (Idle, Nothing); done = 0; acknowledged = false; state = s; volume = v; staging = st }
+no_step s v st = record { answer = taken (None, Nothing); done = 0; acknowledged = false; state = s; volume = v; staging = st }
 
 -- today what a step does is a store
-abbrev pub done_in : Answer ℕ (Done × Says) → ℕ
-done_in (taken (Idle, says)) = 0
-done_in (taken (Stored at, says)) = 1
+abbrev pub done_in : Answer ℕ (Option ℕ × Says) → ℕ
+done_in (taken (None, says)) = 0
+done_in (taken (Some at, says)) = 1
 done_in (refused r) = 0
 
 abbrev pub step_made : AdvanceResult → StepResult → AdvanceResult

@@ -7,12 +7,10 @@
 -- Placed g v x           : the store x is a sector's content, at a sector of the layout g behind the superblock, inside the lent volume v (R1)
 -- Within g v x           : the effect x stores so, if it stores
 -- StepStores s v st      : what holds of a step's store, whatever state, volume and staging are (R2, R43)
-use Rattle.std.specs.Prelude.{ℕ, ◌+◌, ◌*◌, ◌≤◌, ◌<◌, true, not, List, [], ◌∷◌, ◌≡◌, length}
+use Rattle.std.specs.Prelude.{Option, Some, None, ℕ, ◌+◌, ◌*◌, ◌≤◌, ◌<◌, true, not, List, [], ◌∷◌, ◌≡◌, length}
 use Rattle.octets.specs.Answer.{Answer, taken, refused, refuse}
 use Rattle.octets.specs.Choice.{first_met}
 use Rattle.octets.specs.Sectors.{sector_size, put_sector}
-use Rattle.model.specs.declared.Done.{Done}
-use Rattle.model.specs.declared.Done.TheVariants.{Idle, Stored}
 use Rattle.on_disk.specs.declared.Layout.{Layout}
 use Rattle.model.specs.declared.Says.{Says}
 use Rattle.model.specs.declared.State.{State}
@@ -25,9 +23,9 @@ use Rattle.model.specs.StepResult.{StepResult}
 unfoldable pub next_store_of : State → List ℕ → List ℕ → List ℕ → StepResult
 next_store_of s v st out = step_by s v st (first_met ((not (sector_ok out), refuse 1 []) ∷ step_rows s v st) passed)
 
-abbrev pub store_named : List ℕ → Answer ℕ (Done × Says) → List ℕ → List ℕ
-store_named v (taken (Idle, x)) c = v
-store_named v (taken (Stored at, x)) c = put_sector v at c
+abbrev pub store_named : List ℕ → Answer ℕ (Option ℕ × Says) → List ℕ → List ℕ
+store_named v (taken (None, x)) c = v
+store_named v (taken (Some at, x)) c = put_sector v at c
 store_named v (refused r) c = v
 
 pub record Placed (g : Layout) (v : List ℕ) (x : Store) : Type 0 where
@@ -41,9 +39,9 @@ Within g v none = Unit {0}
 Within g v (one x) = Placed g v x
 
 -- the sector that an answer names, and that of an effect, if there is one
-abbrev pub sector_named : Answer ℕ (Done × Says) → List ℕ
-sector_named (taken (Idle, x)) = []
-sector_named (taken (Stored at, x)) = at ∷ []
+abbrev pub sector_named : Answer ℕ (Option ℕ × Says) → List ℕ
+sector_named (taken (None, x)) = []
+sector_named (taken (Some at, x)) = at ∷ []
 sector_named (refused r) = []
 
 abbrev pub sector_stored : Effect → List ℕ

@@ -3,10 +3,9 @@
 -- recovery_row g x, range_rows s v st p : refusal 6, only of the entry that is being replayed or written back
 -- step_rows s v st : the rules of the call, in order
 -- step_of s v st   : the call
-use Rattle.std.specs.Prelude.{ℕ, Bool, not, ◌&&◌, List, [], ◌∷◌, leb}
+use Rattle.std.specs.Prelude.{None, ℕ, Bool, not, ◌&&◌, List, [], ◌∷◌, leb}
 use Rattle.octets.specs.Answer.{taken, refused, refuse}
 use Rattle.octets.specs.Choice.{first_met}
-use Rattle.model.specs.declared.Done.TheVariants.{Idle}
 use Rattle.on_disk.specs.declared.Layout.{Layout}
 use Rattle.model.specs.declared.Phase.{Phase}
 use Rattle.model.specs.declared.Phase.TheVariants as phases
@@ -31,7 +30,7 @@ step_rows s v st = (not (state_ok s && (volume_ok s v && staged_ok s st)), refus
 
 module _ (s : State) (v st : List ℕ) where
   abbrev pub phase_step : Phase → StepResult
-  phase_step phases.Filling = record { answer = taken (Idle, says.Filling); state = s; effect = none; staging = st }
+  phase_step phases.Filling = record { answer = taken (None, says.Filling); state = s; effect = none; staging = st }
   phase_step (phases.Committing j) = commit_step s v st j
   phase_step (phases.WritingBack i h) = write_back_step s v st i h
   phase_step (phases.Recovering k) = recover_step s v st k

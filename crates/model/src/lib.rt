@@ -65,64 +65,50 @@ pub enum Refusal {
 }
 
 // The number of a refusal: R71.
-pub fn number(r: Refusal) -> u32
-    ensures { result ≡ (refusal_of r).number }
-{
-    match r {
-        Refusal::Malformed => 1,
-        Refusal::Parameter => 2,
-        Refusal::Superblock => 3,
-        Refusal::Invalid => 4,
-        Refusal::Short(_) => 5,
-        Refusal::Range => 6,
-        Refusal::StagedRange(_) => 6,
-        Refusal::JournalRange(_, _) => 6,
-        Refusal::TagMismatch(_) => 7,
-        Refusal::JournalTagMismatch(_, _) => 7,
-        Refusal::Full => 8,
-        Refusal::NotNow => 9,
-        Refusal::Exhausted => 10,
-        Refusal::Misplaced(_) => 11,
+impl From<Refusal> for u32 {
+    ghost from_gives = { λ r n. n ≡ (refusal_of r).number };
+
+    fn from(r: Refusal) -> u32 {
+        match r {
+            Refusal::Malformed => 1,
+            Refusal::Parameter => 2,
+            Refusal::Superblock => 3,
+            Refusal::Invalid => 4,
+            Refusal::Short(_) => 5,
+            Refusal::Range | Refusal::StagedRange(_) | Refusal::JournalRange(_, _) => 6,
+            Refusal::TagMismatch(_) | Refusal::JournalTagMismatch(_, _) => 7,
+            Refusal::Full => 8,
+            Refusal::NotNow => 9,
+            Refusal::Exhausted => 10,
+            Refusal::Misplaced(_) => 11,
+        }
     }
 }
 
+// What query gives: the numbers that the superblock holds, and the bytes that the staging loan must have.
 #[derive(Clone, Copy)]
-pub enum FormatAnswer {
-    Formatted,
-    Refused(Refusal),
+pub struct Held {
+    pub layout: Layout,
+    pub staging: usize,
 }
 
+// What open gives: the state, and how many stores are to come before the volume is filling.
 #[derive(Clone, Copy)]
-pub enum OpenAnswer {
-    // The state, and how many stores are to come before the volume is filling.
-    Opened(State, usize),
-    Refused(Refusal),
+pub struct Opened {
+    pub state: State,
+    pub stores: usize,
 }
 
+// What flush did.
 #[derive(Clone, Copy)]
-pub enum WriteAnswer {
-    Taken,
-    Refused(Refusal),
-}
-
-#[derive(Clone, Copy)]
-pub enum FlushAnswer {
+pub enum Flushed {
     // The batch was empty: it is acknowledged at once.
     Acknowledged,
     // Committing begins.
     Begun,
-    Refused(Refusal),
 }
 
-// What a step did to the volume.
-#[derive(Clone, Copy)]
-pub enum Done {
-    Idle,
-    // This sector of the volume was stored.
-    Stored(usize),
-}
-
-// What a step says besides.
+// What a step says besides the sector that it stored.
 #[derive(Clone, Copy)]
 pub enum Says {
     Nothing,
@@ -132,86 +118,45 @@ pub enum Says {
     Filling,
 }
 
+// What a step did to the volume, and what it says.
 #[derive(Clone, Copy)]
-pub enum StepAnswer {
-    Stepped(Done, Says),
-    Refused(Refusal),
+pub struct Step {
+    // the sector that was stored, if one was
+    pub stored: Option<usize>,
+    pub says: Says,
 }
 
 // Whether a step acknowledged the batch.
-pub fn acknowledges(a: StepAnswer) -> bool
+pub fn acknowledges(a: Result<Step, Refusal>) -> bool
     ensures { result ≡ step_acknowledges (step_answer a) }
 {
-    match a {
-        StepAnswer::Stepped(_, says) => match says {
-            Says::Nothing => false,
-            Says::Acknowledged => true,
-            Says::Filling => false,
-        },
-        StepAnswer::Refused(_) => false,
-    }
+    matches!(
+        a,
+        Ok(Step {
+            says: Says::Acknowledged,
+            ..
+        })
+    )
 }
 
 // Whether a step said that the volume is filling.
-pub fn says_filling(a: StepAnswer) -> bool
+pub fn says_filling(a: Result<Step, Refusal>) -> bool
     ensures { result ≡ step_settles (step_answer a) }
 {
-    match a {
-        StepAnswer::Stepped(_, says) => match says {
-            Says::Nothing => false,
-            Says::Acknowledged => false,
-            Says::Filling => true,
-        },
-        StepAnswer::Refused(_) => false,
-    }
+    matches!(
+        a,
+        Ok(Step {
+            says: Says::Filling,
+            ..
+        })
+    )
 }
 
-#[derive(Clone, Copy)]
-pub enum QueryAnswer {
-    // The numbers that the superblock holds, and the bytes that the staging loan must have.
-    Holds(Layout, usize),
-    Refused(Refusal),
-}
-
-#[derive(Clone, Copy)]
-pub enum ReadAnswer {
-    // The sector's bytes are in the loan.
-    Found,
-    Refused(Refusal),
-}
-
-#[derive(Clone, Copy)]
-pub enum VerifyAnswer {
-    // Every tag asked for fits its sector's data.
-    Fits,
-    Refused(Refusal),
-}
-
-// What write, flush and step hand back: the answer, and the state, which a refusal leaves as it was.
-#[derive(Clone, Copy)]
-pub struct Written {
-    pub answer: WriteAnswer,
-    pub state: State,
-}
-
-#[derive(Clone, Copy)]
-pub struct Flushed {
-    pub answer: FlushAnswer,
-    pub state: State,
-}
-
-#[derive(Clone, Copy)]
-pub struct Stepped {
-    pub answer: StepAnswer,
-    pub state: State,
-}
-
-// What advance hands back: the last step's answer (idle, and nothing said, where no step was asked), how many steps did something, whether one
-// acknowledged the batch, and the state.
+// What advance hands back: the last step's answer (nothing stored, and nothing said, where no step was asked), how many steps did something, and whether
+// one acknowledged the batch.
 #[derive(Clone, Copy)]
 pub struct Advanced {
-    pub answer: StepAnswer,
+    pub answer: Result<Step, Refusal>,
     pub done: usize,
     pub acknowledged: bool,
-    pub state: State,
 }
