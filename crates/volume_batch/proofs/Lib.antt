@@ -1,3 +1,2 @@
--- Laws that the proofs of the calls cite: what each test, and each way through a call, leads to.
-pub mod Flushes
+-- Laws that the proofs of the calls cite.
 pub mod Writes

@@ -1,18 +1,26 @@
 use mathlib.Core.Path.{sym, ◌∙◌}
-use Rattle.volume_batch.proofs.Flushes.{unsound, busy, empty, exhausted, begun}
+use native.Mathlib.Omega.{arith}
+use borrow.Author.Tests.{eq-eqb, ne_eqb, lt-ltb}
+use Rattle.model.specs.State.{last_id}
+use Rattle.model.specs.Flush.{flush_of}
 use Rattle.volume_batch.proofs.flush.flush.Goals as goal
 
 pub returns-then-not-state_ok : goal.returns-then-not-state_ok
-returns-then-not-state_ok c = unsound c.args.s c.refuse.result c.refuse.ensures (sym c.state_ok.ensures ∙ c.if-not-state_ok.true)
+unfolding flush_of
+returns-then-not-state_ok c = rw (sym c.state_ok.ensures ∙ c.if-not-state_ok.true)
 
 pub returns-then-not-is_filling : goal.returns-then-not-is_filling
-returns-then-not-is_filling c = busy c.args.s (sym c.state_ok.ensures ∙ c.if-not-state_ok.false) c.refuse-then-not-is_filling.result c.refuse-then-not-is_filling.ensures (sym c.is_filling.ensures ∙ c.if-not-is_filling.true)
+unfolding flush_of
+returns-then-not-is_filling c = rw (sym c.state_ok.ensures ∙ c.if-not-state_ok.false, sym c.is_filling.ensures ∙ c.if-not-is_filling.true)
 
 pub returns-then-s-eq0 : goal.returns-then-s-eq0
-returns-then-s-eq0 c = empty c.args.s (sym c.state_ok.ensures ∙ c.if-not-state_ok.false) (sym c.is_filling.ensures ∙ c.if-not-is_filling.false) c.if-s-eq0.true
+unfolding flush_of
+returns-then-s-eq0 c = rw (sym c.state_ok.ensures ∙ c.if-not-state_ok.false, sym c.is_filling.ensures ∙ c.if-not-is_filling.false, c.if-s-eq0.true)
 
-pub returns-then-s-eq-LAST_ID : goal.returns-then-s-eq-LAST_ID
-returns-then-s-eq-LAST_ID c = exhausted c.args.s (sym c.state_ok.ensures ∙ c.if-not-state_ok.false) (sym c.is_filling.ensures ∙ c.if-not-is_filling.false) c.refuse-then-s-eq-LAST_ID.result c.refuse-then-s-eq-LAST_ID.ensures c.if-s-eq0.false c.if-s-eq-LAST_ID.true
+pub returns-then-s : goal.returns-then-s
+unfolding flush_of
+returns-then-s c = rw (sym c.state_ok.ensures ∙ c.if-not-state_ok.false, sym c.is_filling.ensures ∙ c.if-not-is_filling.false, lt-ltb 0 c.args.s.now.count (omega arith), eq-eqb c.args.s.now.id last_id c.if-s.true)
 
 pub returns : goal.returns
-returns c = begun c.args.s (sym c.state_ok.ensures ∙ c.if-not-state_ok.false) (sym c.is_filling.ensures ∙ c.if-not-is_filling.false) c.if-s-eq0.false c.if-s-eq-LAST_ID.false
+unfolding flush_of
+returns c = rw (sym c.state_ok.ensures ∙ c.if-not-state_ok.false, sym c.is_filling.ensures ∙ c.if-not-is_filling.false, lt-ltb 0 c.args.s.now.count (omega arith), ne_eqb c.args.s.now.id last_id c.if-s.false, ne_eqb c.args.s.now.count 0 c.if-s-eq0.false)

@@ -2,11 +2,5 @@ use mathlib.Core.Path.{sym, ◌∙◌}
 use Rattle.model.proofs.States.{state-layout}
 use Rattle.volume_batch.proofs.write.loans_ok.Goals as goal
 
-pub returns-then-not-state_ok : goal.returns-then-not-state_ok
-returns-then-not-state_ok c = rw (sym c.state_ok.ensures ∙ c.if-not-state_ok.true)
-
 pub staging_ok-staging-requires : goal.staging_ok-staging-requires
 staging_ok-staging-requires c = state-layout c.args.s (sym c.state_ok.ensures ∙ c.if-not-state_ok.false)
-
-pub returns : goal.returns
-returns c = rw (sym c.state_ok.ensures ∙ c.if-not-state_ok.false, c.staging_ok-staging.ensures)

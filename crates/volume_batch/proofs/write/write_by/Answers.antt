@@ -1,32 +1,45 @@
-use Prim.Native.Nat.{ℕ}
-use mathlib.Core.List.{List}
-use mathlib.Core.Path.{sym, ap, ◌∙◌}
+use mathlib.Core.Path.{sym, ◌∙◌}
 use native.Mathlib.Omega.{arith}
-use lib.ListN.{take}
-use Rattle.on_disk.specs.Section.{put_entry}
+use borrow.Author.Tests.{le-leb, lt-leb}
 use Rattle.layout.proofs.Sizes.{width-high}
+use Rattle.on_disk.specs.Layout.{entry_count}
 use Rattle.model.proofs.States.{state-layout, staging-length}
-use Rattle.sound.specs.Rule.{tag_by}
-use Rattle.volume_batch.proofs.Writes.{busy, out_of_range, full, taken, state-ok, staging-ok, sector-length}
+use Rattle.model.specs.Write.{write_of}
+use Rattle.volume_batch.proofs.Writes.{state-ok, staging-ok, sector-length}
 use Rattle.volume_batch.proofs.write.write_by.Goals as goal
 
 pub returns-then-not-is_filling : goal.returns-then-not-is_filling
-returns-then-not-is_filling c = busy (tag_by c.args.rule) c.args.s c.args.st.now c.args.sector c.args.bytes.now c.requires c.refuse.result c.refuse.ensures (sym c.is_filling.ensures ∙ c.if-not-is_filling.true)
+unfolding write_of
+returns-then-not-is_filling c = rw (c.requires, sym c.is_filling.ensures ∙ c.if-not-is_filling.true)
 
-pub returns-then-g-sector : goal.returns-then-g-sector
-returns-then-g-sector c = out_of_range (tag_by c.args.rule) c.args.s c.args.st.now c.args.sector c.args.bytes.now c.requires (sym c.is_filling.ensures ∙ c.if-not-is_filling.false) c.refuse-then-g-sector.result c.refuse-then-g-sector.ensures c.if-g-sector.true
+pub returns-then-s-sector : goal.returns-then-s-sector
+unfolding write_of
+returns-then-s-sector c = rw (c.requires, sym c.is_filling.ensures ∙ c.if-not-is_filling.false, le-leb c.args.s.now.layout.provided c.args.sector c.if-s-sector.true)
 
 pub entry_count-requires : goal.entry_count-requires
-entry_count-requires c = width-high c.args.s.layout (state-layout c.args.s (state-ok c.args.s c.args.st.now c.args.bytes.now c.requires))
+entry_count-requires c =
+    let a = c.args in
+    width-high a.s.now.layout (state-layout a.s.now (state-ok a.s.now a.st.now a.bytes.now c.requires))
 
-pub returns-then-entry_count-count : goal.returns-then-entry_count-count
-returns-then-entry_count-count c = full (tag_by c.args.rule) c.args.s c.args.st.now c.args.sector c.args.bytes.now c.requires (sym c.is_filling.ensures ∙ c.if-not-is_filling.false) c.if-g-sector.false c.entry_count.result c.entry_count.ensures.0 c.refuse-then-entry_count-count.result c.refuse-then-entry_count-count.ensures c.if-entry_count-count.true
-
-pub tag-digest-requires : goal.tag-digest-requires
-tag-digest-requires c = sector-length c.args.s c.args.st.now c.args.bytes.now c.requires
+pub returns-then-entry_count-s : goal.returns-then-entry_count-s
+unfolding write_of
+returns-then-entry_count-s c =
+    let s = c.args.s.now in
+    rw (c.requires, sym c.is_filling.ensures ∙ c.if-not-is_filling.false, lt-leb s.layout.provided c.args.sector c.if-s-sector.false, le-leb (entry_count s.layout.width) s.count (rw c.entry_count.ensures.0 at c.if-entry_count-s.true))
 
 pub put_entry-requires : goal.put_entry-requires
-put_entry-requires c = let ok = state-layout c.args.s (state-ok c.args.s c.args.st.now c.args.bytes.now c.requires) in (width-high c.args.s.layout ok, omega (arith, c.entry_count.ensures.0), staging-length c.args.s.layout c.args.st.now (staging-ok c.args.s c.args.st.now c.args.bytes.now c.requires), sector-length c.args.s c.args.st.now c.args.bytes.now c.requires, omega (arith, c.tag-digest.ensures.1, width-high c.args.s.layout ok))
+put_entry-requires c =
+    let a = c.args in
+    let high = width-high a.s.now.layout (state-layout a.s.now (state-ok a.s.now a.st.now a.bytes.now c.requires)) in (
+      high,
+      omega (arith, c.entry_count.ensures.0),
+      staging-length a.s.now.layout a.st.now (staging-ok a.s.now a.st.now a.bytes.now c.requires),
+      sector-length a.s.now a.st.now a.bytes.now c.requires,
+      omega (arith, c.tag-digest.ensures.1, high),
+    )
 
 pub returns : goal.returns
-returns c = taken (tag_by c.args.rule) c.args.s c.args.st.now c.args.sector c.args.bytes.now c.requires (sym c.is_filling.ensures ∙ c.if-not-is_filling.false) c.if-g-sector.false c.entry_count.result c.entry_count.ensures.0 c.put_entry.new.section c.if-entry_count-count.false (c.put_entry.ensures ∙ ap (λ (x : List ℕ). put_entry c.args.s.layout.width c.args.st.now c.args.s.count (record { sector = c.args.sector; bytes = c.args.bytes.now; tag = take c.args.s.layout.width x })) c.tag-digest.ensures.0)
+unfolding write_of
+returns c =
+    let s = c.args.s.now in
+    rw (c.requires, sym c.is_filling.ensures ∙ c.if-not-is_filling.false, lt-leb s.layout.provided c.args.sector c.if-s-sector.false, lt-leb (entry_count s.layout.width) s.count (rw c.entry_count.ensures.0 at c.if-entry_count-s.false), c.put_entry.ensures, c.tag-digest.ensures.0)
