@@ -4,7 +4,8 @@
 -- all_below n f   : whether f holds of every number below n
 -- first_below n f : the least number below n of which f holds; n − 1 where there is none below that
 -- greatest n f   : the greatest of f 0 to f (n - 1); 0 where n is 0
-use Rattle.std.specs.Prelude.{ℕ, zero, suc, max, Bool, true, not, ◌&&◌, List, [], ◌++◌}
+-- if_below n k   : the number k where it is below n, else none
+use Rattle.std.specs.Prelude.{ℕ, zero, suc, max, ltb, Option, Some, None, Bool, true, not, ◌&&◌, List, [], ◌++◌}
 use Rattle.octets.specs.Choice.{pick}
 
 abbrev pub collect : {A : Type 0} → ℕ → (ℕ → List A) → List A
@@ -22,3 +23,6 @@ first_below (suc n) f = pick (all_below n (λ k. not (f k))) n (first_below n f)
 abbrev pub greatest : ℕ → (ℕ → ℕ) → ℕ
 greatest zero f = 0
 greatest (suc n) f = max (greatest n f) (f n)
+
+abbrev pub if_below : ℕ → ℕ → Option ℕ
+if_below n k = pick (ltb k n) (Some k) None

@@ -6,14 +6,14 @@ ghost use Rattle.on_disk.specs.Layout.{most_provided, section_size, base, run_le
 ghost use Rattle.on_disk.specs.Superblock.{superblock_of};
 ghost use Rattle.octets.specs.Lists.{collect};
 ghost use Rattle.model.specs.Tag.{tag_of};
-ghost use Rattle.model.specs.Refusal.{format_answer};
+ghost use Rattle.model.specs.Refusal.{plain_answer};
 ghost use Rattle.model.specs.Format.{zeros, fresh_run, format_of};
 ghost use Rattle.model.specs.Keyed.{format_keyed_of};
 ghost use Rattle.sound.specs.Rule.{tag_by, RuleOk};
 ghost use Rattle.volume_format.specs.Runs.{fresh_runs};
 
 use layout::{SECTOR_SIZE, superblock};
-use model::{FormatAnswer, Refusal};
+use model::Refusal;
 use on_disk::Layout;
 use sound::tag;
 use sound::tag::Rule;
@@ -23,12 +23,10 @@ fn put_tags(rule: Rule, v: &mut [u8], first: usize, n: usize, width: usize, at: 
     requires { (width ≤ 32) × (first + n ≤ 2 ^ 32) × (at + n * width ≤ length v.old) × RuleOk rule }
     ensures { v.new ≡ patch v.old at (collect n (λ i. tag_by rule width (first + i) (zeros sector_size))) }
 {
-    let sector = [0u8; 512];
-    let mut i: usize = 0;
-    while i < n {
+    let sector = [0u8; SECTOR_SIZE];
+    for i in 0..n {
         let digest = tag::tag(rule, first + i, &sector);
         octets::copy_at(v, at + i * width, &digest, 0, width);
-        i += 1;
     }
 }
 
@@ -51,10 +49,8 @@ fn put_runs(rule: Rule, v: &mut [u8], g: Layout, n: usize, at: usize)
 {
     let sectors = layout::run_length(g);
     let size = (layout::tag_area(g) + sectors) * SECTOR_SIZE;
-    let mut q: usize = 0;
-    while q < n {
+    for q in 0..n {
         put_run(rule, v, g, q, sectors, at + q * size);
-        q += 1;
     }
 }
 
@@ -91,46 +87,44 @@ fn put_tail(rule: Rule, v: &mut [u8], g: Layout)
 }
 
 // Formats by any rule.
-fn format_by(rule: Rule, v: &mut [u8], g: Layout) -> FormatAnswer
+fn format_by(rule: Rule, v: &mut [u8], g: Layout) -> Result<(), Refusal>
     requires { RuleOk rule }
-    ensures { record { answer = format_answer result; volume = v.new } ≡ format_of (tag_by rule) g v.old }
+    ensures { record { answer = plain_answer result; volume = v.new } ≡ format_of (tag_by rule) g v.old }
 {
-    let loan_ok = layout::volume_loan_ok(v);
-    let in_range = layout::layout_ok(g);
-    if !loan_ok {
-        return FormatAnswer::Refused(Refusal::Malformed);
+    if !layout::volume_loan_ok(v) {
+        return Err(Refusal::Malformed);
     }
-    if !in_range {
-        return FormatAnswer::Refused(Refusal::Parameter);
+    if !layout::layout_ok(g) {
+        return Err(Refusal::Parameter);
     }
     let needed = layout::needed(g);
     if v.len() < needed * SECTOR_SIZE {
-        return FormatAnswer::Refused(Refusal::Short(needed));
+        return Err(Refusal::Short(needed));
     }
     if !superblock::is_zero(superblock::superblock_at(v, g.reserved)) {
-        return FormatAnswer::Refused(Refusal::Superblock);
+        return Err(Refusal::Superblock);
     }
     put_head(v, g);
     put_tail(rule, v, g);
-    FormatAnswer::Formatted
+    Ok(())
 }
 
 // Makes the journal, tag padding and data zero, each tag fit, and writes the superblock. Refused unless the superblock is zero.
-pub fn format(v: &mut [u8], g: Layout) -> FormatAnswer
-    ensures { record { answer = format_answer result; volume = v.new } ≡ format_of tag_of g v.old }
+pub fn format(v: &mut [u8], g: Layout) -> Result<(), Refusal>
+    ensures { record { answer = plain_answer result; volume = v.new } ≡ format_of tag_of g v.old }
 {
     format_by(tag::plain(), v, g)
 }
 
 // Formats for tags under a key (R105, R106).
-pub fn format_keyed(v: &mut [u8], g: Layout, key: &[u8]) -> FormatAnswer
-    ensures { record { answer = format_answer result; volume = v.new } ≡ format_keyed_of key.now g v.old }
+pub fn format_keyed(v: &mut [u8], g: Layout, key: &[u8]) -> Result<(), Refusal>
+    ensures { record { answer = plain_answer result; volume = v.new } ≡ format_keyed_of key.now g v.old }
 {
     if !layout::volume_loan_ok(v) {
-        return FormatAnswer::Refused(Refusal::Malformed);
+        return Err(Refusal::Malformed);
     }
     if !hmac::key_ok(key) {
-        return FormatAnswer::Refused(Refusal::Parameter);
+        return Err(Refusal::Parameter);
     }
     format_by(tag::by_key(key), v, g)
 }

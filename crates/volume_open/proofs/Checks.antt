@@ -25,14 +25,12 @@ use Rattle.on_disk.specs.Layout.{layout_ok}
 use Rattle.model.specs.Tag.{Tag}
 use Rattle.sound.specs.declared.tag.Rule.{Rule}
 use Rattle.sound.specs.Rule.{digest_by, tag_by}
-use Rattle.model.specs.Refusal.{refusal_of}
+use Rattle.model.specs.Refusal.{refusal_of, plain_answer}
+use Rattle.std.proofs.Common.{Result, Ok, Err}
 use Rattle.model.specs.State.{Verdict, passed}
 use Rattle.model.specs.Open.{entries_verdict}
 use Rattle.journal.specs.Replay.{later_ids, first_of, order_from}
 use Rattle.journal.proofs.Walks.{next_of, entries_from, none_from}
-use Rattle.volume_open.specs.Results.{checked}
-use Rattle.volume_open.specs.declared.open.Check.{Check}
-use Rattle.volume_open.specs.declared.open.Check.TheVariants.{Passed, Refused}
 
 -- the tag test: the entry's tag, against the first bytes of the digest
 pub entry-fits-is : (q : Rule) (t : ℕ) (e : Entry) (n : ℕ) (b d s : List ℕ) (r : Bool) → n ≡ e.sector → b ≡ e.bytes → s ≡ e.tag → length s ≡ t
@@ -97,12 +95,12 @@ module _ (tag : Tag) (g : Layout) where
 
   -- ---- the entries of a section: the first i of n pass
 
-  module _ (f : ℕ → List Replayed) (i : ℕ) (r : Check) (start : verdict_of (collect i f) ≡ passed) (found : checked r ≡ verdict_of (f i)) where
-    pub entries-more : r ≡ Passed → verdict_of (collect (i + 1) f) ≡ passed
+  module _ (f : ℕ → List Replayed) (i : ℕ) (r : Result (Unit {0}) Refusal) (start : verdict_of (collect i f) ≡ passed) (found : plain_answer r ≡ verdict_of (f i)) where
+    pub entries-more : r ≡ Ok tt → verdict_of (collect (i + 1) f) ≡ passed
     entries-more e =
-        ap (λ (n : ℕ). verdict_of (collect n f)) (add-one i) ∙ passed-append (collect i f) (f i) start ∙ sym found ∙ ap checked e
+        ap (λ (n : ℕ). verdict_of (collect n f)) (add-one i) ∙ passed-append (collect i f) (f i) start ∙ sym found ∙ ap plain_answer e
 
-    refused-of : (x : Refusal) → r ≡ Refused x → (n : ℕ) → i < n → verdict_of (collect n f) ≡ refused (refusal_of x)
+    refused-of : (x : Refusal) → r ≡ Err x → (n : ℕ) → i < n → verdict_of (collect n f) ≡ refused (refusal_of x)
     refused-of x e zero l = absurd (omega arith)
     refused-of x e (suc n) l = go (refused-of x e n) (dec_lt i n)
       where
@@ -111,10 +109,10 @@ module _ (tag : Tag) (g : Layout) where
         go ih (no m) =
             let last : n ≡ i = omega arith in
             ap (λ (j : ℕ). verdict_of (collect (suc j) f)) last ∙ passed-append (collect i f) (f i) start
-            ∙ sym found ∙ ap checked e
+            ∙ sym found ∙ ap plain_answer e
 
-    pub entries-stop : (x : Refusal) → r ≡ Refused x → (n : ℕ) → i < n → checked r ≡ verdict_of (collect n f)
-    entries-stop x e n l = ap checked e ∙ sym (refused-of x e n l)
+    pub entries-stop : (x : Refusal) → r ≡ Err x → (n : ℕ) → i < n → plain_answer r ≡ verdict_of (collect n f)
+    entries-stop x e n l = ap plain_answer e ∙ sym (refused-of x e n l)
 
   -- ---- the sections of the replay: what is left from section k on
 
@@ -122,22 +120,22 @@ module _ (tag : Tag) (g : Layout) where
     pub sections-end : g.sections ≤ k → passed ≡ w
     sections-end l = sym (left ∙ ap (λ (L : List Found). verdict_of (replay_in g v L)) (none_from g v ok k l))
 
-    module _ (l : k < g.sections) (sec : List ℕ) (is : sec ≡ section_of g v k) (r : Check) (found : checked r ≡ verdict_of (used_of g.width k sec)) where
+    module _ (l : k < g.sections) (sec : List ℕ) (is : sec ≡ section_of g v k) (r : Result (Unit {0}) Refusal) (found : plain_answer r ≡ verdict_of (used_of g.width k sec)) where
       abbrev here : List Replayed
       here = used_of g.width k (section_of g v k)
 
-      found_here : checked r ≡ verdict_of here
+      found_here : plain_answer r ≡ verdict_of here
       found_here = found ∙ ap (λ (x : List ℕ). verdict_of (used_of g.width k x)) is
 
-      pub sections-more : (n : ℕ) → ordered g.sections (later_ids (due_ids g v) (due_ids g v k) k) ≡ order_from (due_ids g v) g.sections n → r ≡ Passed
+      pub sections-more : (n : ℕ) → ordered g.sections (later_ids (due_ids g v) (due_ids g v k) k) ≡ order_from (due_ids g v) g.sections n → r ≡ Ok tt
           → w ≡ verdict_of (replay_in g v (order_from (due_ids g v) g.sections n))
       sections-more n q e =
           left ∙ ap verdict_of (entries_from g v ok k n l q)
-          ∙ passed-append here (replay_in g v (order_from (due_ids g v) g.sections n)) (sym found_here ∙ ap checked e)
+          ∙ passed-append here (replay_in g v (order_from (due_ids g v) g.sections n)) (sym found_here ∙ ap plain_answer e)
 
-      pub sections-stop : (x : Refusal) → r ≡ Refused x → checked r ≡ w
+      pub sections-stop : (x : Refusal) → r ≡ Err x → plain_answer r ≡ w
       sections-stop x e =
           let n : ℕ = first_of g.sections (ordered g.sections (later_ids (due_ids g v) (due_ids g v k) k)) in
-          ap checked e
+          ap plain_answer e
           ∙ sym (left ∙ ap verdict_of (entries_from g v ok k n l (next_of g v ok k l))
-          ∙ refused-append here (replay_in g v (order_from (due_ids g v) g.sections n)) (refusal_of x) (sym found_here ∙ ap checked e))
+          ∙ refused-append here (replay_in g v (order_from (due_ids g v) g.sections n)) (refusal_of x) (sym found_here ∙ ap plain_answer e))

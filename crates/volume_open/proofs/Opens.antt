@@ -28,14 +28,12 @@ use Rattle.hmac.specs.Hmac.{key_ok}
 use Rattle.sound.specs.declared.tag.Rule.{Rule}
 use Rattle.sound.specs.Rule.{tag_by, keyed_of}
 use Rattle.sound.proofs.Rules.{keyed-tags}
-use Rattle.model.specs.Refusal.{refusal_of}
+use Rattle.model.specs.Refusal.{refusal_of, plain_answer}
+use Rattle.std.proofs.Common.{Result, Ok, Err}
 use Rattle.model.specs.State.{Verdict, passed, last_id, volume_loan_ok, staging_ok}
 use Rattle.model.specs.Open.{misplaced, superblock_rows, entries_verdict, phase_for, OpenResult, open_by, open_with, open_of}
 use Rattle.model.specs.Query.{query_of}
 use Rattle.journal.proofs.Scans.{some_below, none_below}
-use Rattle.volume_open.specs.Results.{checked}
-use Rattle.volume_open.specs.declared.open.Check.{Check}
-use Rattle.volume_open.specs.declared.open.Check.TheVariants as check
 use Rattle.volume_open.proofs.Queries.{superblock-rows, valid-layout, held-passes, held-layout, held-valid, held-room}
 
 -- the rows behind those of volume and superblock
@@ -80,18 +78,18 @@ module _ (tags : Tags) (g : Layout) (r : ℕ) (v st : List ℕ) where
             let found = some_below (misplaced g v) g.sections m first l in
             sym (behind ∙ rw (staging, ids-left, found.0) (ap (λ (k : ℕ). record { answer = refuse 11 (k ∷ []); staging = st }) (sym found.1)))
 
-        module _ (some : 0 < g.sections) (last : g.sections ≤ m) (c : Check) (is : checked c ≡ entries_verdict (tags g.width) g (replay g v)) where
+        module _ (some : 0 < g.sections) (last : g.sections ≤ m) (c : Result (Unit {0}) Refusal) (is : plain_answer c ≡ entries_verdict (tags g.width) g (replay g v)) where
           in_place : all_below g.sections (λ k. not (misplaced g v k)) ≡ true
           in_place = none_below (misplaced g v) g.sections m first some last
 
-          pub entry-refused : (x : Refusal) → c ≡ check.Refused x → record { answer = refused (refusal_of x); staging = st } ≡ open_with tags g r v st
+          pub entry-refused : (x : Refusal) → c ≡ Err x → record { answer = refused (refusal_of x); staging = st } ≡ open_with tags g r v st
           entry-refused x e =
-              sym (behind ∙ rw (staging, ids-left, in_place) (ap (open_by g v st) (sym is ∙ ap checked e)))
+              sym (behind ∙ rw (staging, ids-left, in_place) (ap (open_by g v st) (sym is ∙ ap plain_answer e)))
 
-          pub opened : c ≡ check.Passed → (o : List ℕ) → o ≡ empty_section g.width → (t : ℕ) → t ≡ steps_of g (replay g v) → (p : Phase) → p ≡ phase_for t
+          pub opened : c ≡ Ok tt → (o : List ℕ) → o ≡ empty_section g.width → (t : ℕ) → t ≡ steps_of g (replay g v) → (p : Phase) → p ≡ phase_for t
               → record { answer = taken (record { layout = g; phase = p; count = 0; id = n + 1 }, t); staging = o } ≡ open_with tags g r v st
           opened e o eo t et p ep =
-              sym (behind ∙ rw (staging, ids-left, in_place) (ap (open_by g v st) (sym is ∙ ap checked e) ∙ sym results))
+              sym (behind ∙ rw (staging, ids-left, in_place) (ap (open_by g v st) (sym is ∙ ap plain_answer e) ∙ sym results))
             where
               phase : p ≡ phase_for (steps_of g (replay g v))
               phase = ep ∙ ap phase_for et

@@ -7,86 +7,67 @@ ghost use Rattle.on_disk.specs.Layout.{most_width, entry_count, section_size, ne
 ghost use Rattle.on_disk.specs.Section.{entry_of, empty_section};
 ghost use Rattle.model.specs.Journal.{used_entry, used_of, replay};
 ghost use Rattle.model.specs.Tag.{tag_of};
-ghost use Rattle.model.specs.Refusal.{open_answer};
+ghost use Rattle.model.specs.Refusal.{plain_answer, open_answer};
 ghost use Rattle.model.specs.State.{passed};
 ghost use Rattle.model.specs.Open.{superblock_rows, entries_verdict, phase_for, open_with, open_of};
 ghost use Rattle.model.specs.Keyed.{open_keyed_of};
 ghost use Rattle.journal.specs.Replay.{ids_of};
 ghost use Rattle.sound.specs.Rule.{tag_by};
-ghost use Rattle.volume_open.specs.Results.{checked};
 
 use crate::query;
 use journal::journal as sections;
 use layout::{MOST_SECTIONS, SECTOR_SIZE};
-use model::{OpenAnswer, Phase, QueryAnswer, Refusal, State};
+use model::{Opened, Phase, Refusal, State};
 use on_disk::Layout;
 use section::UNUSED;
 use sound::state::LAST_ID;
 use sound::tag::Rule;
 use sound::{state, tag};
 
-// What the check of entries to be replayed found.
-#[derive(Clone, Copy)]
-enum Check {
-    Passed,
-    Refused(Refusal),
-}
-
 // Whether entry i of section k, if it is used, can be replayed.
-fn check_entry(rule: Rule, g: Layout, section: &[u8], k: usize, i: usize) -> Check
+fn check_entry(rule: Rule, g: Layout, section: &[u8], k: usize, i: usize) -> Result<(), Refusal>
     requires { (layout_ok g ≡ true) × (length section.now ≡ section_size g.width * sector_size) × (i < entry_count g.width) }
-    ensures { checked result ≡ entries_verdict (tag_by rule g.width) g (used_entry k i (entry_of g.width section.now i)) }
+    ensures { plain_answer result ≡ entries_verdict (tag_by rule g.width) g (used_entry k i (entry_of g.width section.now i)) }
 {
     let sector = section::entry_sector(section, g.width, i);
     if sector == UNUSED {
-        return Check::Passed;
+        return Ok(());
     }
     if g.provided as u64 <= sector {
-        return Check::Refused(Refusal::JournalRange(k, i));
+        return Err(Refusal::JournalRange(k, i));
     }
     let mut bytes = [0u8; SECTOR_SIZE];
     section::entry_data(section, g.width, i, &mut bytes);
     let digest = tag::tag(rule, sector as usize, &bytes);
     let stored = section::entry_tag(section, g.width, i);
     if !octets::same_at(stored, 0, &digest, 0, g.width) {
-        return Check::Refused(Refusal::JournalTagMismatch(k, i));
+        return Err(Refusal::JournalTagMismatch(k, i));
     }
-    Check::Passed
+    Ok(())
 }
 
 // Whether every used entry of section k can be replayed; else the refusal for the first that cannot.
-fn check_section(rule: Rule, g: Layout, section: &[u8], k: usize) -> Check
+fn check_section(rule: Rule, g: Layout, section: &[u8], k: usize) -> Result<(), Refusal>
     requires { (layout_ok g ≡ true) × (length section.now ≡ section_size g.width * sector_size) }
-    ensures { checked result ≡ entries_verdict (tag_by rule g.width) g (used_of g.width k section.now) }
+    ensures { plain_answer result ≡ entries_verdict (tag_by rule g.width) g (used_of g.width k section.now) }
 {
-    let count = layout::entry_count(g.width);
-    let mut i = 0;
-    while i < count {
-        let check = check_entry(rule, g, section, k, i);
-        match check {
-            Check::Passed => {}
-            Check::Refused(_) => return check,
-        }
-        i += 1;
+    for i in 0..layout::entry_count(g.width) {
+        check_entry(rule, g, section, k, i)?;
     }
-    Check::Passed
+    Ok(())
 }
 
 // Whether every entry to be replayed can be, in replay order.
-fn check_replay(rule: Rule, ids: &[u64; MOST_SECTIONS], v: &[u8], g: Layout) -> Check
+fn check_replay(rule: Rule, ids: &[u64; MOST_SECTIONS], v: &[u8], g: Layout) -> Result<(), Refusal>
     requires { (layout_ok g ≡ true) × (needed g * sector_size ≤ length v.now) × (ids.now ≡ ids_of g v.now) }
-    ensures { checked result ≡ entries_verdict (tag_by rule g.width) g (replay g v.now) }
+    ensures { plain_answer result ≡ entries_verdict (tag_by rule g.width) g (replay g v.now) }
 {
     let mut k = sections::next_section(ids, g.sections, 0, 0);
     while k < g.sections {
-        let check = check_section(rule, g, sections::section_of(v, g, k), k);
-        match check {
-            Check::Passed => {}
-            Check::Refused(_) => return check,
-        }
+        check_section(rule, g, sections::section_of(v, g, k), k)?;
         k = sections::next_section(ids, g.sections, ids[k], k);
     }
-    Check::Passed
+    Ok(())
 }
 
 // The phase of a volume with so many stores to come.
@@ -109,68 +90,60 @@ fn clear_staging(st: &mut [u8], width: usize)
 }
 
 // Opens a volume whose superblock and length are as they must be.
-fn open_journal(rule: Rule, v: &[u8], st: &mut [u8], g: Layout) -> OpenAnswer
+fn open_journal(rule: Rule, v: &[u8], st: &mut [u8], g: Layout) -> Result<Opened, Refusal>
     requires { (layout_ok g ≡ true) × (needed g * sector_size ≤ length v.now) × (first_met (superblock_rows g g.reserved v.now) passed ≡ passed) }
     ensures { record { answer = open_answer result; staging = st.new } ≡ open_with (tag_by rule) g g.reserved v.now st.old }
 {
     if !state::staging_ok(g, st) {
-        return OpenAnswer::Refused(Refusal::Malformed);
+        return Err(Refusal::Malformed);
     }
     let greatest = sections::greatest_id(v, g);
     let mut ids = [0u64; MOST_SECTIONS];
     sections::scan(v, g, &mut ids);
     let misplaced = sections::first_misplaced(&ids, g);
-    let count = g.sections;
     if greatest == LAST_ID {
-        return OpenAnswer::Refused(Refusal::Exhausted);
+        return Err(Refusal::Exhausted);
     }
-    if misplaced < count {
-        return OpenAnswer::Refused(Refusal::Misplaced(misplaced));
+    if misplaced < g.sections {
+        return Err(Refusal::Misplaced(misplaced));
     }
-    let check = check_replay(rule, &ids, v, g);
-    match check {
-        Check::Passed => {}
-        Check::Refused(refusal) => return OpenAnswer::Refused(refusal),
-    }
+    check_replay(rule, &ids, v, g)?;
     clear_staging(st, g.width);
     let stores = sections::count_steps(&ids, v, g);
-    let opened = State {
+    let state = State {
         layout: g,
         phase: phase_for(stores),
         count: 0,
         id: greatest + 1,
     };
-    OpenAnswer::Opened(opened, stores)
+    Ok(Opened { state, stores })
 }
 
 // Opens by any rule.
-fn open_by(rule: Rule, v: &[u8], st: &mut [u8], r: usize) -> OpenAnswer
+fn open_by(rule: Rule, v: &[u8], st: &mut [u8], r: usize) -> Result<Opened, Refusal>
     ensures { record { answer = open_answer result; staging = st.new } ≡ open_of (tag_by rule) r v.now st.old }
 {
-    let held = query::query(v, r);
-    match held {
-        QueryAnswer::Holds(g, _) => open_journal(rule, v, st, g),
-        QueryAnswer::Refused(refusal) => OpenAnswer::Refused(refusal),
-    }
+    let held = query::query(v, r)?;
+    open_journal(rule, v, st, held.layout)
 }
 
 // Checks volume and journal, makes the staging loan an empty batch, and gives the state and the number of stores that replay the journal. It stores
 // nothing on the volume.
-pub fn open(v: &[u8], st: &mut [u8], r: usize) -> OpenAnswer
+pub fn open(v: &[u8], st: &mut [u8], r: usize) -> Result<Opened, Refusal>
     ensures { record { answer = open_answer result; staging = st.new } ≡ open_of tag_of r v.now st.old }
 {
     open_by(tag::plain(), v, st, r)
 }
 
 // Opens a volume whose tags are under a key (R105, R106).
-pub fn open_keyed(v: &[u8], st: &mut [u8], r: usize, key: &[u8]) -> OpenAnswer
+pub fn open_keyed(v: &[u8], st: &mut [u8], r: usize, key: &[u8]) -> Result<Opened, Refusal>
     ensures { record { answer = open_answer result; staging = st.new } ≡ open_keyed_of key.now r v.now st.old }
 {
     if !layout::volume_loan_ok(v) {
-        return OpenAnswer::Refused(Refusal::Malformed);
+        return Err(Refusal::Malformed);
     }
     if !hmac::key_ok(key) {
-        return OpenAnswer::Refused(Refusal::Parameter);
+        return Err(Refusal::Parameter);
     }
     open_by(tag::by_key(key), v, st, r)
 }

@@ -6,14 +6,16 @@ use mathlib.Core.Logic.{◌≢◌}
 use mathlib.Core.Path.{◌≡◌, sym, ap, ◌∙◌}
 use native.Mathlib.Omega.{arith}
 use lib.ListN.{length}
-use borrow.Author.Tests.{eqb-true, eq-eqb, ne_eqb, lt-ltb, le-ltb, le-leb, lt-leb}
+use Rattle.std.proofs.Common.{Some, None}
+use borrow.Author.Tests.{eqb-true, eq-eqb, ne_eqb, lt-ltb, le-ltb, lt-leb}
 use Rattle.octets.specs.Answer.{refuse}
-use Rattle.octets.specs.Choice.{first_met}
 use Rattle.octets.specs.Numbers.{le}
 use Rattle.octets.specs.Parts.{part, patch, same}
 use Rattle.octets.proofs.Parts.{length_part, patch-all}
 use Rattle.octets.specs.Sectors.{sector_at}
-use Rattle.hmac.specs.Hmac.{key_ok}
+use Rattle.octets.specs.Choice.{first_met}
+use Rattle.octets.specs.Lists.{if_below}
+use Rattle.octets.proofs.Lists.{some-below, none-below}
 use Rattle.on_disk.specs.declared.Layout.{Layout}
 use Rattle.model.specs.declared.State.{State}
 use Rattle.on_disk.specs.Layout.{data_at, tag_byte}
@@ -21,12 +23,9 @@ use Rattle.on_disk.specs.Section.{entry_of}
 use Rattle.on_disk.proofs.Addresses.{and_both}
 use Rattle.model.specs.Tag.{Tags, tag_at}
 use Rattle.model.specs.State.{passed, state_ok, volume_ok, staged_ok, sector_ok, is_recovering}
-use Rattle.model.specs.Read.{newest_for, ReadResult, staged_for, read_rows, read_by, read_of}
-use Rattle.model.specs.Keyed.{read_keyed_of}
-use Rattle.model.proofs.Keyed.{keyed-calls}
+use Rattle.model.specs.Read.{newest_for, staged_for, read_rows, read_of}
 use Rattle.sound.specs.declared.tag.Rule.{Rule}
-use Rattle.sound.specs.Rule.{digest_by, tag_by, keyed_of}
-use Rattle.sound.proofs.Rules.{keyed-tags}
+use Rattle.sound.specs.Rule.{digest_by, tag_by}
 
 pub newest-hit : (t d n i : ℕ) (st : List ℕ) → 0 < i → (entry_of t st (i - 1)).sector ≡ n → i - 1 ≡ newest_for t st d i n
 newest-hit t d n zero st l e = absurd (omega arith)
@@ -47,45 +46,29 @@ fits-is q g v n d r at start end ea es ee ed er =
     let size : end - start ≡ 512 = omega arith in
     rw (er, ed, size, ea, es)
 
-module _ (tags : Tags) (s : State) (v st : List ℕ) (n : ℕ) (loan : List ℕ) where
-  abbrev sound : Bool
-  sound = state_ok s && (volume_ok s v && (staged_ok s st && sector_ok loan))
-
-  pub malformed : sound ≡ false → record { answer = refuse 1 []; sector = loan } ≡ read_of tags s v st n loan
+module _ (tags : Tags) (s : State) (v st : List ℕ) (n : ℕ) (loan : List ℕ)
+    (ok : state_ok s && (volume_ok s v && (staged_ok s st && sector_ok loan)) ≡ true) (ready : is_recovering s.phase ≡ false) (low : n < s.layout.provided) where
+  -- with the newest entry, which is staged
+  pub found-staged : (i : ℕ) → Some i ≡ if_below s.count (staged_for s st n) → record { answer = passed; sector = (entry_of s.layout.width st i).bytes } ≡ read_of tags s v st n loan
   unfolding read_of
-  malformed e = rw e
+  found-staged i e =
+      let at = some-below s.count (staged_for s st n) i (sym e) in
+      let below = lt-ltb (staged_for s st n) s.count at.1 in
+      let rules : first_met (read_rows tags s v st n loan) passed ≡ passed = rw (ok, ready, lt-leb s.layout.provided n low, below) in
+      rw (rules, below, at.0)
 
-  module _ (ok : sound ≡ true) where
-    pub not-now : is_recovering s.phase ≡ true → record { answer = refuse 9 []; sector = loan } ≡ read_of tags s v st n loan
+  -- where none is staged
+  module _ (none : None ≡ if_below s.count (staged_for s st n)) where
+    pub mismatch : same (tag_at s.layout v n) (tags s.layout.width n (sector_at v (data_at s.layout n))) ≡ false → record { answer = refuse 7 (n ∷ []); sector = loan } ≡ read_of tags s v st n loan
     unfolding read_of
-    not-now e = rw (ok, e)
+    mismatch q = rw (ok, ready, lt-leb s.layout.provided n low, le-ltb (staged_for s st n) s.count (none-below s.count (staged_for s st n) (sym none)), q)
 
-    module _ (ready : is_recovering s.phase ≡ false) where
-      pub out_of_range : s.layout.provided ≤ n → record { answer = refuse 6 []; sector = loan } ≡ read_of tags s v st n loan
-      unfolding read_of
-      out_of_range e = rw (ok, ready, le-leb s.layout.provided n e)
-
-      module _ (low : n < s.layout.provided) (i : ℕ) (ei : i ≡ staged_for s st n) where
-        pub found-staged : i < s.count → (o : List ℕ) → o ≡ (entry_of s.layout.width st i).bytes → record { answer = passed; sector = o } ≡ read_of tags s v st n loan
-        unfolding read_of
-        found-staged l o e =
-            let rules : first_met (read_rows tags s v st n loan) passed ≡ passed =
-            rw (ok, ready, lt-leb s.layout.provided n low, ← ei, lt-ltb i s.count l) in
-            let chosen : (entry_of s.layout.width st i).bytes ≡ (read_by tags s v st n loan passed).sector = rw (← ei, lt-ltb i s.count l) in
-            ap (λ (x : List ℕ). record { answer = passed; sector = x }) (e ∙ chosen) ∙ ap (read_by tags s v st n loan) (sym rules)
-
-        module _ (above : s.count ≤ i) (f : Bool) (ef : f ≡ same (tag_at s.layout v n) (tags s.layout.width n (sector_at v (data_at s.layout n)))) where
-          pub mismatch : f ≡ false → record { answer = refuse 7 (n ∷ []); sector = loan } ≡ read_of tags s v st n loan
-          unfolding read_of
-          mismatch q = rw (ok, ready, lt-leb s.layout.provided n low, ← ei, le-ltb i s.count above, ← ef, q)
-
-          pub found-home : f ≡ true → (o : List ℕ) → o ≡ sector_at v (data_at s.layout n) → record { answer = passed; sector = o } ≡ read_of tags s v st n loan
-          unfolding read_of
-          found-home q o e =
-              let rules : first_met (read_rows tags s v st n loan) passed ≡ passed =
-              rw (ok, ready, lt-leb s.layout.provided n low, ← ei, le-ltb i s.count above, ← ef, q) in
-              let chosen : sector_at v (data_at s.layout n) ≡ (read_by tags s v st n loan passed).sector = rw (← ei, le-ltb i s.count above) in
-              ap (λ (x : List ℕ). record { answer = passed; sector = x }) (e ∙ chosen) ∙ ap (read_by tags s v st n loan) (sym rules)
+    pub found-home : same (tag_at s.layout v n) (tags s.layout.width n (sector_at v (data_at s.layout n))) ≡ true → record { answer = passed; sector = sector_at v (data_at s.layout n) } ≡ read_of tags s v st n loan
+    unfolding read_of
+    found-home q =
+        let above = le-ltb (staged_for s st n) s.count (none-below s.count (staged_for s st n) (sym none)) in
+        let rules : first_met (read_rows tags s v st n loan) passed ≡ passed = rw (ok, ready, lt-leb s.layout.provided n low, above, q) in
+        rw (rules, above)
 
 -- what the first check gives
 module _ (s : State) (v st loan : List ℕ) (ok : state_ok s && (volume_ok s v && (staged_ok s st && sector_ok loan)) ≡ true) where
@@ -106,25 +89,6 @@ module _ (s : State) (v st loan : List ℕ) (ok : state_ok s && (volume_ok s v &
 
   pub sector-length : length loan ≡ 512
   sector-length = eqb-true (length loan) 512 (and_both (staged_ok s st) (sector_ok loan) lengths).1
-
--- ---- with a key
-
-module _ (key : List ℕ) (s : State) (v st : List ℕ) (n : ℕ) (loan : List ℕ) where
-  abbrev checked : Bool
-  checked = state_ok s && (volume_ok s v && (staged_ok s st && sector_ok loan))
-
-  pub keyed-malformed : checked ≡ false → record { answer = refuse 1 []; sector = loan } ≡ read_keyed_of key s v st n loan
-  unfolding read_keyed_of
-  keyed-malformed e = rw e
-
-  pub key-refused : checked ≡ true → key_ok key ≡ false → record { answer = refuse 2 []; sector = loan } ≡ read_keyed_of key s v st n loan
-  unfolding read_keyed_of
-  key-refused ok e = rw (ok, e)
-
-  pub key-taken : (o : ReadResult) → key_ok key ≡ true → (q : Rule) → q ≡ keyed_of key → o ≡ read_of (tag_by q) s v st n loan → o ≡ read_keyed_of key s v st n loan
-  key-taken o ok q eq e =
-      e ∙ ap (λ (x : Rule). read_of (tag_by x) s v st n loan) eq ∙ ap (λ (tags : Tags). read_of tags s v st n loan) (keyed-tags key)
-      ∙ sym ((keyed-calls.taken key ok).read s v st n loan)
 
 -- a sector copied into a loan as long
 pub sector-copied : (g : Layout) (v : List ℕ) (n a : ℕ) (loan r : List ℕ) → a ≡ data_at g n → (a + 1) * 512 ≤ length v → length loan ≡ 512

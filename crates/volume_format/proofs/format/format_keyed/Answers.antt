@@ -1,6 +1,6 @@
 use mathlib.Core.Path.{sym, ◌∙◌, subst}
 use Rattle.volume_format.proofs.Formats.{keyed-malformed, key-refused, key-taken}
-use Rattle.model.specs.Refusal.{format_answer}
+use Rattle.model.specs.Refusal.{plain_answer}
 use Rattle.sound.specs.Rule.{RuleOk}
 use Rattle.sound.proofs.Rules.{rules-ok}
 use Rattle.volume_format.proofs.format.format_keyed.Goals as goal
@@ -18,4 +18,4 @@ pub format_by-requires : goal.format_by-requires
 format_by-requires c = subst RuleOk (sym c.by_key.ensures) (rules-ok.1 c.args.key.now)
 
 pub returns : goal.returns
-returns c = key-taken c.args.key.now c.args.g c.args.v.now (record { answer = format_answer c.format_by.result; volume = c.format_by.new.v }) (sym c.key_ok.ensures ∙ c.if-not-key_ok.false) c.by_key.result c.by_key.ensures c.format_by.ensures
+returns c = key-taken c.args.key.now c.args.g c.args.v.now (record { answer = plain_answer c.format_by.result; volume = c.format_by.new.v }) (sym c.key_ok.ensures ∙ c.if-not-key_ok.false) c.by_key.result c.by_key.ensures c.format_by.ensures

@@ -25,54 +25,54 @@ returns-then-v-r c =
     let v = c.args.v.now in
     short-of-superblock (layout_in r (superblock_at r v)) r v (sym c.volume_loan_ok.ensures ∙ c.if-not-volume_loan_ok.false) c.if-r-gt-MOST_RESERVED.false c.if-v-r.true
 
-pub returns-then-zero : goal.returns-then-zero
-returns-then-zero c =
+pub returns-then-is_zero : goal.returns-then-is_zero
+returns-then-is_zero c =
     let r = c.args.r in
     let v = c.args.v.now in
     not-formatted (layout_in r (superblock_at r v)) r v (sym c.volume_loan_ok.ensures ∙ c.if-not-volume_loan_ok.false) c.if-r-gt-MOST_RESERVED.false c.if-v-r.false
-    c.superblock_at-block.result.now c.superblock_at-block.ensures.0 (sym c.is_zero-zero.ensures ∙ c.if-zero.true)
+    c.superblock_at-block.result.now c.superblock_at-block.ensures.0 (sym c.is_zero.ensures ∙ c.if-is_zero.true)
 
-pub superblock_ok-valid-requires : goal.superblock_ok-valid-requires
-superblock_ok-valid-requires c = c.superblock_at-block.ensures.1
+pub superblock_ok-requires : goal.superblock_ok-requires
+superblock_ok-requires c = c.superblock_at-block.ensures.1
 
-pub returns-then-not-valid : goal.returns-then-not-valid
-returns-then-not-valid c =
+pub returns-then-not-superblock_ok : goal.returns-then-not-superblock_ok
+returns-then-not-superblock_ok c =
     let r = c.args.r in
     let v = c.args.v.now in
     invalid (layout_in r (superblock_at r v)) r v (sym c.volume_loan_ok.ensures ∙ c.if-not-volume_loan_ok.false) c.if-r-gt-MOST_RESERVED.false c.if-v-r.false
-    c.superblock_at-block.result.now c.superblock_at-block.ensures.0 (sym c.is_zero-zero.ensures ∙ c.if-zero.false) (sym c.superblock_ok-valid.ensures ∙ c.if-not-valid.true)
+    c.superblock_at-block.result.now c.superblock_at-block.ensures.0 (sym c.is_zero.ensures ∙ c.if-is_zero.false) (sym c.superblock_ok.ensures ∙ c.if-not-superblock_ok.true)
 
-pub layout_in-g-requires : goal.layout_in-g-requires
-layout_in-g-requires c = c.superblock_at-block.ensures.1
+pub layout_in-layout-requires : goal.layout_in-layout-requires
+layout_in-layout-requires c = c.superblock_at-block.ensures.1
 
 pub needed-needed-requires : goal.needed-needed-requires
 needed-needed-requires c =
-    ap layout_ok c.layout_in-g.ensures
-    ∙ valid-layout c.args.r c.superblock_at-block.result.now (sym c.superblock_ok-valid.ensures ∙ c.if-not-valid.false)
+    ap layout_ok c.layout_in-layout.ensures
+    ∙ valid-layout c.args.r c.superblock_at-block.result.now (sym c.superblock_ok.ensures ∙ c.if-not-superblock_ok.false)
 
 pub returns-then-v-needed : goal.returns-then-v-needed
 returns-then-v-needed c =
     let r = c.args.r in
     let v = c.args.v.now in
-    let g = c.layout_in-g.result in
-    let is : g ≡ layout_in r (superblock_at r v) = c.layout_in-g.ensures ∙ ap (layout_in r) c.superblock_at-block.ensures.0 in
+    let g = c.layout_in-layout.result in
+    let is : g ≡ layout_in r (superblock_at r v) = c.layout_in-layout.ensures ∙ ap (layout_in r) c.superblock_at-block.ensures.0 in
     short g r v (sym c.volume_loan_ok.ensures ∙ c.if-not-volume_loan_ok.false) c.if-r-gt-MOST_RESERVED.false c.if-v-r.false
-    c.superblock_at-block.result.now c.superblock_at-block.ensures.0 (sym c.is_zero-zero.ensures ∙ c.if-zero.false) (sym c.superblock_ok-valid.ensures ∙ c.if-not-valid.false)
+    c.superblock_at-block.result.now c.superblock_at-block.ensures.0 (sym c.is_zero.ensures ∙ c.if-is_zero.false) (sym c.superblock_ok.ensures ∙ c.if-not-superblock_ok.false)
     c.needed-needed.result c.needed-needed.ensures.0 c.if-v-needed.true
     ∙ ap (λ (x : Layout). query_with x r v) is
 
 pub section_size-staging-requires : goal.section_size-staging-requires
 section_size-staging-requires c =
-    width-high c.layout_in-g.result
-    (ap layout_ok c.layout_in-g.ensures ∙ valid-layout c.args.r c.superblock_at-block.result.now (sym c.superblock_ok-valid.ensures ∙ c.if-not-valid.false))
+    width-high c.layout_in-layout.result
+    (ap layout_ok c.layout_in-layout.ensures ∙ valid-layout c.args.r c.superblock_at-block.result.now (sym c.superblock_ok.ensures ∙ c.if-not-superblock_ok.false))
 
 pub returns : goal.returns
 returns c =
     let r = c.args.r in
     let v = c.args.v.now in
-    let g = c.layout_in-g.result in
-    let is : g ≡ layout_in r (superblock_at r v) = c.layout_in-g.ensures ∙ ap (layout_in r) c.superblock_at-block.ensures.0 in
+    let g = c.layout_in-layout.result in
+    let is : g ≡ layout_in r (superblock_at r v) = c.layout_in-layout.ensures ∙ ap (layout_in r) c.superblock_at-block.ensures.0 in
     holds g r v (sym c.volume_loan_ok.ensures ∙ c.if-not-volume_loan_ok.false) c.if-r-gt-MOST_RESERVED.false c.if-v-r.false
-    c.superblock_at-block.result.now c.superblock_at-block.ensures.0 (sym c.is_zero-zero.ensures ∙ c.if-zero.false) (sym c.superblock_ok-valid.ensures ∙ c.if-not-valid.false)
+    c.superblock_at-block.result.now c.superblock_at-block.ensures.0 (sym c.is_zero.ensures ∙ c.if-is_zero.false) (sym c.superblock_ok.ensures ∙ c.if-not-superblock_ok.false)
     c.needed-needed.result c.section_size-staging.result c.needed-needed.ensures.0 c.if-v-needed.false c.section_size-staging.ensures.0
     ∙ ap (λ (x : Layout). query_with x r v) is

@@ -1,12 +1,7 @@
-use Prim.Native.Nat.{◌*◌, ◌≤◌}
-use mathlib.Core.Path.{◌≡◌}
-use lib.ListN.{length}
+-- The entries from i on are for other sectors.
+use Rattle.std.proofs.Common.{◌≡◌}
 use Rattle.model.specs.Read.{newest_for}
-use Rattle.on_disk.specs.Layout.{entry_count, section_size}
 use Rattle.volume_read.proofs.read.newest_for.Given as goal
 
 abbrev pub invariant-loop-i : goal.invariant-loop-i
-invariant-loop-i l = (l.t ≤ 32) × (l.c ≤ entry_count l.t) × (length l.st ≡ section_size l.t * 512) × (l.i ≤ l.c) × (newest_for l.t l.st l.c l.c l.sector ≡ newest_for l.t l.st l.c l.i l.sector)
-
-abbrev pub decreases-loop-i : goal.decreases-loop-i
-decreases-loop-i l = l.i
+invariant-loop-i l = newest_for l.t l.st l.c l.c l.sector ≡ newest_for l.t l.st l.c l.i l.sector

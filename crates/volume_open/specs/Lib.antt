@@ -1,2 +1,0 @@
--- What the code hands back, beside the model's results.
-pub mod Results

@@ -1,0 +1,2 @@
+-- What the test of many tags gives.
+pub mod Results
