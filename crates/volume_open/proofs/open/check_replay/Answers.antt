@@ -1,6 +1,7 @@
 use Prim.Native.Nat.{◌<◌}
-use mathlib.Core.Path.{ap}
+use mathlib.Core.Path.{◌≡◌, ap, ◌∙◌}
 use native.Mathlib.Omega.{arith}
+use Rattle.model.specs.Refusal.{plain_answer}
 use Rattle.sound.specs.Rule.{tag_by}
 use Rattle.journal.proofs.Walks.{next-due, next-behind, from_first, fewer-from}
 use Rattle.layout.proofs.Sizes.{sections-high}
@@ -20,14 +21,16 @@ loop-k-init c =
 pub section_of-requires : goal.section_of-requires
 section_of-requires c = (c.requires.0, c.requires.1, omega (arith, c.loop-k-test.true))
 
-pub check_section-check-requires : goal.check_section-check-requires
-check_section-check-requires c = (c.requires.0, c.section_of.ensures.1)
+pub check_section-requires : goal.check_section-requires
+check_section-requires c = (c.requires.0, c.section_of.ensures.1)
 
-pub returns-in-Refused : goal.returns-in-Refused
-returns-in-Refused c =
+pub returns-in_err-check_section : goal.returns-in_err-check_section
+returns-in_err-check_section c =
     let g = c.args.g in
-    sections-stop (tag_by c.args.rule g.width) g c.args.v.now c.requires.0 _ c.loop-k.k c.loop-k.invariant.2 (omega (arith, c.loop-k-test.true))
-    c.section_of.result.now c.section_of.ensures.0 c.check_section-check.result c.check_section-check.ensures _ c.in-Refused.is
+    let same : c.from_residual.result ≡ c.check_section.result = grind arith in
+    ap plain_answer same
+    ∙ sections-stop (tag_by c.args.rule g.width) g c.args.v.now c.requires.0 _ c.loop-k.k c.loop-k.invariant.2 (omega (arith, c.loop-k-test.true))
+    c.section_of.result.now c.section_of.ensures.0 c.check_section.result c.check_section.ensures _ c.in_err-check_section.was
 
 pub next_section-k-requires-in-loop-k : goal.next_section-k-requires-in-loop-k
 next_section-k-requires-in-loop-k c = (c.loop-k.invariant.1, omega (arith, c.loop-k-test.true))
@@ -49,7 +52,7 @@ loop-k-preserved c =
       next.1,
       c.loop-k.invariant.1,
       sections-more (tag_by c.args.rule g.width) g v c.requires.0 _ c.loop-k.k c.loop-k.invariant.2 l
-          c.section_of.result.now c.section_of.ensures.0 c.check_section-check.result c.check_section-check.ensures c.next_section-k-in-loop-k.result next.0 c.in-Passed.is,
+          c.section_of.result.now c.section_of.ensures.0 c.check_section.result c.check_section.ensures c.next_section-k-in-loop-k.result next.0 c.in_ok-check_section.was,
     )
 
 pub returns : goal.returns

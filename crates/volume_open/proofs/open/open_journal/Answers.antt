@@ -1,4 +1,9 @@
-use mathlib.Core.Path.{refl, sym, ◌∙◌}
+use mathlib.Core.Path.{◌≡◌, refl, sym, ap, ◌∙◌}
+use native.Mathlib.Omega.{arith}
+use Rattle.std.proofs.Common.{Result, Err}
+use Rattle.model.specs.declared.Opened.{Opened}
+use Rattle.model.specs.declared.Refusal.{Refusal}
+use Rattle.model.specs.Refusal.{open_answer}
 use Rattle.layout.proofs.Sizes.{width-high, sections-low}
 use Rattle.sound.specs.Rule.{tag_by}
 use Rattle.journal.proofs.Scans.{misplaced-first}
@@ -20,23 +25,25 @@ returns-then-greatest c =
     exhausted (tag_by a.rule) a.g a.g.reserved a.v.now a.st.now c.requires.2 (sym c.staging_ok.ensures ∙ c.if-not-staging_ok.false)
     c.greatest_id-greatest.result c.greatest_id-greatest.ensures c.if-greatest.true
 
-pub returns-then-misplaced-count : goal.returns-then-misplaced-count
-returns-then-misplaced-count c =
+pub returns-then-misplaced-g : goal.returns-then-misplaced-g
+returns-then-misplaced-g c =
     let a = c.args in
     section-misplaced (tag_by a.rule) a.g a.g.reserved a.v.now a.st.now c.requires.2 (sym c.staging_ok.ensures ∙ c.if-not-staging_ok.false)
     c.greatest_id-greatest.result c.greatest_id-greatest.ensures
-    c.if-greatest.false c.first_misplaced-misplaced.result (c.first_misplaced-misplaced.ensures ∙ misplaced-first a.g a.v.now c.requires.0 _ c.scan.ensures) c.if-misplaced-count.true
+    c.if-greatest.false c.first_misplaced-misplaced.result (c.first_misplaced-misplaced.ensures ∙ misplaced-first a.g a.v.now c.requires.0 _ c.scan.ensures) c.if-misplaced-g.true
 
-pub check_replay-check-requires : goal.check_replay-check-requires
-check_replay-check-requires c = (c.requires.0, c.requires.1, c.scan.ensures)
+pub check_replay-requires : goal.check_replay-requires
+check_replay-requires c = (c.requires.0, c.requires.1, c.scan.ensures)
 
-pub returns-in-Refused : goal.returns-in-Refused
-returns-in-Refused c =
+pub returns-in_err-check_replay : goal.returns-in_err-check_replay
+returns-in_err-check_replay c =
     let a = c.args in
-    entry-refused (tag_by a.rule) a.g a.g.reserved a.v.now a.st.now c.requires.2 (sym c.staging_ok.ensures ∙ c.if-not-staging_ok.false)
+    let same : c.from_residual.result ≡ Err c.in_err-check_replay.field-0.0 = grind arith in
+    ap (λ (x : Result Opened Refusal). record { answer = open_answer x; staging = a.st.now }) same
+    ∙ entry-refused (tag_by a.rule) a.g a.g.reserved a.v.now a.st.now c.requires.2 (sym c.staging_ok.ensures ∙ c.if-not-staging_ok.false)
     c.greatest_id-greatest.result c.greatest_id-greatest.ensures c.if-greatest.false
-    c.first_misplaced-misplaced.result (c.first_misplaced-misplaced.ensures ∙ misplaced-first a.g a.v.now c.requires.0 _ c.scan.ensures) (sections-low a.g c.requires.0) c.if-misplaced-count.false
-    c.check_replay-check.result c.check_replay-check.ensures _ c.in-Refused.is
+    c.first_misplaced-misplaced.result (c.first_misplaced-misplaced.ensures ∙ misplaced-first a.g a.v.now c.requires.0 _ c.scan.ensures) (sections-low a.g c.requires.0) c.if-misplaced-g.false
+    c.check_replay.result c.check_replay.ensures _ c.in_err-check_replay.was
 
 pub clear_staging-requires : goal.clear_staging-requires
 clear_staging-requires c =
@@ -51,7 +58,7 @@ returns c =
     let a = c.args in
     opened (tag_by a.rule) a.g a.g.reserved a.v.now a.st.now c.requires.2 (sym c.staging_ok.ensures ∙ c.if-not-staging_ok.false)
     c.greatest_id-greatest.result c.greatest_id-greatest.ensures c.if-greatest.false
-    c.first_misplaced-misplaced.result (c.first_misplaced-misplaced.ensures ∙ misplaced-first a.g a.v.now c.requires.0 _ c.scan.ensures) (sections-low a.g c.requires.0) c.if-misplaced-count.false
-    c.check_replay-check.result c.check_replay-check.ensures c.in-Passed.is
+    c.first_misplaced-misplaced.result (c.first_misplaced-misplaced.ensures ∙ misplaced-first a.g a.v.now c.requires.0 _ c.scan.ensures) (sections-low a.g c.requires.0) c.if-misplaced-g.false
+    c.check_replay.result c.check_replay.ensures c.in_ok-check_replay.was
     c.clear_staging.new.st c.clear_staging.ensures
     c.count_steps-stores.result c.count_steps-stores.ensures c.phase_for.result c.phase_for.ensures
