@@ -1,8 +1,8 @@
 -- The store of a step, made: the answer names its sector, which lies in the volume.
-use Prim.Native.Nat.{ℕ, ◌+◌, ◌*◌, ◌≤◌, ◌<◌}
+use Prim.Native.Nat.{ℕ, ◌+◌, ◌<◌}
 use mathlib.Core.Bool.{Bool, true, false}
 use mathlib.Core.List.{List, []}
-use mathlib.Core.Path.{◌≡◌, refl, sym, ap, ◌∙◌, subst}
+use mathlib.Core.Path.{◌≡◌, refl, sym, ap, ◌∙◌}
 use native.Mathlib.Omega.{arith}
 use lib.Dec.{ltb}
 use lib.ListN.{length, get_or}
@@ -18,10 +18,9 @@ use Rattle.model.specs.declared.Step.{Step}
 use Rattle.model.specs.Refusal.{step_answer}
 use Rattle.on_disk.specs.Section.{entry_of}
 use Rattle.model.specs.Journal.{section_of, replay}
-use Rattle.model.specs.Store.{Store, Effect, none, one, made, content_of, home_store, steps_of}
+use Rattle.model.specs.Store.{Store, Effect, none, one, made, home_store, steps_of}
 use Rattle.model.specs.State.{state_ok, volume_ok, staging_ok}
 use Rattle.model.specs.Step.{step_of}
-use Rattle.model.specs.StepResult.{StepResult}
 use Rattle.model.specs.NextStore.{next_store_of, store_named, Within, sector_named, sector_stored, StepStores}
 use Rattle.model.proofs.States.{staged-in}
 use Rattle.model.proofs.NextStore.{step-stores}

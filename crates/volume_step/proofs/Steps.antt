@@ -19,7 +19,7 @@ use Rattle.model.specs.declared.Says.{Says}
 use Rattle.model.specs.declared.Says.TheVariants.{Nothing, Acknowledged, Filling}
 use Rattle.model.specs.declared.State.{State}
 use Rattle.model.specs.declared.Step.{Step}
-use Rattle.model.specs.Refusal.{refusal_of, step_answer}
+use Rattle.model.specs.Refusal.{refusal_of}
 use Rattle.on_disk.specs.Layout.{section_size}
 use Rattle.on_disk.specs.Section.{Entry, entry_of, empty_section}
 use Rattle.model.specs.Journal.{section_of, replay}

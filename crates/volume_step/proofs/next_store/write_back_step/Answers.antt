@@ -50,7 +50,7 @@ returns-then-h-home_stores c =
     let home = c.home_stores.ensures.0 (entry_of args.s.now.layout.width args.st.now args.i) (sym c.entry_sector-sector.ensures) in
     rw (c.stored.ensures.0, c.stored.ensures.1)
     (same-entry args.s.now args.v.now args.st.now args.out.now pre.0 pre.1 pre.2 args.i args.h pre.3 _ c.entry_sector-sector.ensures c.if-g-sector.false
-    _ _ c.home_store-at.ensures (omega (arith, home, c.if-h-home_stores.true)))
+    _ _ c.home_store-at.ensures (omega arith))
 
 pub overflow_add-i : goal.overflow_add-i
 overflow_add-i c = omega (arith, (state-writing-back c.args.s.now c.requires.0 c.args.i c.args.h c.requires.3).1, per-high c.args.s.now.layout.width)
@@ -66,7 +66,7 @@ returns-then-i-s c =
     let home = c.home_stores.ensures.0 (entry_of s.layout.width args.st.now args.i) (sym c.entry_sector-sector.ensures) in
     rw (c.stored-then-i-s.ensures.0, c.stored-then-i-s.ensures.1)
     (next-entry s args.v.now args.st.now args.out.now pre.0 pre.1 pre.2 args.i args.h pre.3 _ c.entry_sector-sector.ensures c.if-g-sector.false
-    _ _ c.home_store-at.ensures (omega (arith, home, c.if-h-home_stores.false, staged-store s args.st.now pre.2 args.i args.h pre.3)) c.if-i-s.true)
+    _ _ c.home_store-at.ensures (omega (arith, staged-store s args.st.now pre.2 args.i args.h pre.3)) c.if-i-s.true)
 
 pub clear_section-requires : goal.clear_section-requires
 clear_section-requires c =
@@ -82,4 +82,4 @@ returns c =
     let place = state-writing-back s pre.0 args.i args.h pre.3 in
     rw (c.filled.ensures.0, c.filled.ensures.1, c.clear_section.ensures)
     (last_entry s args.v.now args.st.now args.out.now pre.0 pre.1 pre.2 args.i args.h pre.3 _ c.entry_sector-sector.ensures c.if-g-sector.false
-    _ _ c.home_store-at.ensures (omega (arith, home, c.if-h-home_stores.false, staged-store s args.st.now pre.2 args.i args.h pre.3)) (omega (arith, c.if-i-s.false, place.0)))
+    _ _ c.home_store-at.ensures (omega (arith, staged-store s args.st.now pre.2 args.i args.h pre.3)) (omega arith))
