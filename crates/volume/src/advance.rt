@@ -33,7 +33,7 @@ fn one_more(last: Advanced, answer: Result<Step, Refusal>) -> Advanced
     Advanced {
         answer,
         done: last.done + done_in(answer),
-        acknowledged: model::acknowledges(answer) | last.acknowledged,
+        acknowledged: model::acknowledges(answer) || last.acknowledged,
     }
 }
 
