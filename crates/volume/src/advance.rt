@@ -8,112 +8,78 @@ ghost use Rattle.volume.specs.Results.{advanced, step_added, Scanned};
 
 use journal::journal as sections;
 use layout::{MOST_SECTIONS, SECTOR_SIZE};
-use model::{Advanced, Done, Phase, Says, State, StepAnswer, Stepped};
+use model::{Advanced, Phase, Refusal, Says, State, Step};
 use sound::state;
 use volume_step::{recovery, step, store};
 
-// Nothing was done, and nothing is said.
-fn no_step(s: State) -> Advanced
-    ensures { result ≡ record { answer = StepAnswer.Stepped Done.Idle Says.Nothing; done = 0; acknowledged = false; state = s } }
-{
-    Advanced {
-        answer: StepAnswer::Stepped(Done::Idle, Says::Nothing),
-        done: 0,
-        acknowledged: false,
-        state: s,
-    }
-}
-
 // How many steps did something, of one step: one, or none.
-fn done_in(a: StepAnswer) -> usize
+fn done_in(a: Result<Step, Refusal>) -> usize
     ensures { (result ≡ done_in (step_answer a)) × (result ≤ 1) }
 {
-    match a {
-        StepAnswer::Stepped(done, _) => match done {
-            Done::Idle => 0,
-            Done::Stored(_) => 1,
-        },
-        StepAnswer::Refused(_) => 0,
-    }
+    usize::from(matches!(
+        a,
+        Ok(Step {
+            stored: Some(_),
+            ..
+        })
+    ))
 }
 
 // What was done before, and one step more.
-fn one_more(last: Advanced, stepped: Stepped) -> Advanced
+fn one_more(last: Advanced, answer: Result<Step, Refusal>) -> Advanced
     requires { last.done < 2 ^ 64 - 1 }
-    ensures { result ≡ step_added last stepped }
+    ensures { result ≡ step_added last answer }
 {
-    let answer = stepped.answer;
-    let count = done_in(answer);
-    let said = model::acknowledges(answer);
-    let state = stepped.state;
     Advanced {
-        answer: answer,
-        done: last.done + count,
-        acknowledged: said | last.acknowledged,
-        state: state,
+        answer,
+        done: last.done + done_in(answer),
+        acknowledged: model::acknowledges(answer) || last.acknowledged,
     }
 }
 
 // n steps more. Once a step does nothing, every further one is the same, and is not made.
 fn steps(
     before: Advanced,
+    s: &mut State,
     v: &mut [u8],
     st: &mut [u8],
     n: usize,
     content: &mut [u8; SECTOR_SIZE],
 ) -> Advanced
     requires { before.done + n < 2 ^ 64 }
-    ensures { advanced result v.new st.new ≡ advance_from n (advanced before v.old st.old) }
+    ensures { advanced result s.new v.new st.new ≡ advance_from n (advanced before s.old v.old st.old) }
 {
     let mut last = before;
-    let mut i = 0;
-    while i < n {
-        let stepped = step::step_through(last.state, v, st, content);
-        let answer = stepped.answer;
-        let next = one_more(last, stepped);
-        last = next;
+    for _ in 0..n {
+        let answer = step::step_through(s, v, st, content);
+        last = one_more(last, answer);
         if done_in(answer) == 0 {
             return last;
         }
-        i += 1;
     }
     last
 }
 
-// i steps, of which each stored a sector and none said acknowledged; the last handed back `stepped`.
-fn stored_last(before: Advanced, i: usize, stepped: Stepped) -> Advanced
-    ensures { result ≡ record { answer = stepped.answer; done = i; acknowledged = before.acknowledged; state = stepped.state } }
-{
-    let answer = stepped.answer;
-    let state = stepped.state;
-    Advanced {
-        answer: answer,
-        done: i,
-        acknowledged: before.acknowledged,
-        state: state,
-    }
-}
-
 // The steps of a recovery on a journal that has been scanned, from its store k on: at most n, and none that is refused. Between two of them nothing is
-// kept but the store that comes next and the sector that was stored last.
+// kept but the store that comes next and the sector that was stored last; the state is set behind the last.
 fn replay_from(
     before: Advanced,
+    s: &mut State,
     v: &mut [u8],
     ids: &[u64; MOST_SECTIONS],
     k: usize,
     n: usize,
     content: &mut [u8; SECTOR_SIZE],
 ) -> Advanced
-    requires { Scanned before k v.old ids.now }
-    ensures { ((st : List ℕ) → staging_ok before.state.layout st ≡ true
-        → advanced result v.new st ≡ advance_from result.done (advanced before v.old st)) × (result.done ≤ n) }
+    requires { Scanned before s.old k v.old ids.now }
+    ensures { ((st : List ℕ) → staging_ok s.old.layout st ≡ true
+        → advanced result s.new v.new st ≡ advance_from result.done (advanced before s.old v.old st)) × (result.done ≤ n) }
 {
-    let s = before.state;
     let g = s.layout;
     let mut x = sections::locate(ids, v, g, k);
     let mut at = 0;
-    let mut i = 0;
-    while i < n {
+    let mut made = 0;
+    for _ in 0..n {
         if x.section == g.sections {
             break;
         }
@@ -126,30 +92,34 @@ fn replay_from(
         store::put_part(v, p.byte, content, p.size);
         at = p.byte / SECTOR_SIZE;
         x = next;
-        i += 1;
+        made += 1;
     }
-    if i == 0 {
+    if made == 0 {
         return before;
     }
     let more = x.section < g.sections;
-    stored_last(before, i, recovery::replayed(s, at, k + i, more))
+    Advanced {
+        answer: Ok(recovery::replayed(s, at, k + made, more)),
+        done: made,
+        ..before
+    }
 }
 
 // The same on a journal that is yet to be scanned.
 fn recover(
     before: Advanced,
+    s: &mut State,
     v: &mut [u8],
     st: &[u8],
     k: usize,
     n: usize,
     content: &mut [u8; SECTOR_SIZE],
 ) -> Advanced
-    requires { (before.done ≡ 0) × (before.state.phase ≡ Phase.Recovering k) }
-    ensures { (advanced result v.new st.now ≡ advance_from result.done (advanced before v.old st.now))
+    requires { (before.done ≡ 0) × (s.old.phase ≡ Phase.Recovering k) }
+    ensures { (advanced result s.new v.new st.now ≡ advance_from result.done (advanced before s.old v.old st.now))
         × (result.done ≤ n) }
 {
-    let s = before.state;
-    if !state::state_ok(s) {
+    if !state::state_ok(*s) {
         return before;
     }
     let g = s.layout;
@@ -161,23 +131,29 @@ fn recover(
     }
     let mut ids = [0u64; MOST_SECTIONS];
     sections::scan(v, g, &mut ids);
-    replay_from(before, v, &ids, k, n, content)
+    replay_from(before, s, v, &ids, k, n, content)
 }
 
 // Makes n steps.
-pub fn advance(s: State, v: &mut [u8], st: &mut [u8], n: usize) -> Advanced
-    ensures { advanced result v.new st.new ≡ advance_of n s v.old st.old }
+pub fn advance(s: &mut State, v: &mut [u8], st: &mut [u8], n: usize) -> Advanced
+    ensures { advanced result s.new v.new st.new ≡ advance_of n s.old v.old st.old }
 {
-    let before = no_step(s);
+    let before = Advanced {
+        answer: Ok(Step {
+            stored: None,
+            says: Says::Nothing,
+        }),
+        done: 0,
+        acknowledged: false,
+    };
     let mut content = [0u8; SECTOR_SIZE];
-    let p = s.phase;
-    match p {
-        Phase::Filling => steps(before, v, st, n, &mut content),
-        Phase::Committing(_) => steps(before, v, st, n, &mut content),
-        Phase::WritingBack(_, _) => steps(before, v, st, n, &mut content),
+    match s.phase {
+        Phase::Filling | Phase::Committing(_) | Phase::WritingBack(_, _) => {
+            steps(before, s, v, st, n, &mut content)
+        }
         Phase::Recovering(k) => {
-            let last = recover(before, v, st, k, n, &mut content);
-            steps(last, v, st, n - last.done, &mut content)
+            let last = recover(before, s, v, st, k, n, &mut content);
+            steps(last, s, v, st, n - last.done, &mut content)
         }
     }
 }

@@ -1,49 +1,28 @@
-// What a step hands back: the three ways in which one that makes a store, or is refused, can end.
+// The two ways in which a step that made a store most often ends: with more to come, and with none.
 ghost use Rattle.std.specs.Prelude.{◌≡◌};
 ghost use Rattle.model.specs.State.{in_phase};
 
-use model::{Done, Phase, Refusal, Says, State, StepAnswer, Stepped};
-
-// The volume, staging and the state are as they were.
-pub(crate) fn refuse(s: State, r: Refusal) -> Stepped
-    ensures { result ≡ record { answer = StepAnswer.Refused r; state = s } }
-{
-    Stepped {
-        answer: StepAnswer::Refused(r),
-        state: s,
-    }
-}
+use model::{Phase, Says, State, Step};
 
 // A sector was stored, and more are to come.
-pub(crate) fn stored(s: State, at: usize, p: Phase) -> Stepped
-    ensures { result ≡ record { answer = StepAnswer.Stepped (Done.Stored at) Says.Nothing; state = in_phase s p } }
+pub(crate) fn stored(s: &mut State, at: usize, p: Phase) -> Step
+    ensures { (result ≡ record { stored = Some at; says = Says.Nothing }) × (s.new ≡ in_phase s.old p) }
 {
-    let g = s.layout;
-    let next = State {
-        layout: g,
-        phase: p,
-        count: s.count,
-        id: s.id,
-    };
-    Stepped {
-        answer: StepAnswer::Stepped(Done::Stored(at), Says::Nothing),
-        state: next,
+    s.phase = p;
+    Step {
+        stored: Some(at),
+        says: Says::Nothing,
     }
 }
 
 // The last sector was stored: the volume is filling.
-pub(crate) fn filled(s: State, at: usize) -> Stepped
-    ensures { result ≡ record { answer = StepAnswer.Stepped (Done.Stored at) Says.Filling; state = record { layout = s.layout; phase = Phase.Filling; count = 0; id = s.id } } }
+pub(crate) fn filled(s: &mut State, at: usize) -> Step
+    ensures { (result ≡ record { stored = Some at; says = Says.Filling }) × (s.new ≡ record { layout = s.old.layout; phase = Phase.Filling; count = 0; id = s.old.id }) }
 {
-    let g = s.layout;
-    let next = State {
-        layout: g,
-        phase: Phase::Filling,
-        count: 0,
-        id: s.id,
-    };
-    Stepped {
-        answer: StepAnswer::Stepped(Done::Stored(at), Says::Filling),
-        state: next,
+    s.phase = Phase::Filling;
+    s.count = 0;
+    Step {
+        stored: Some(at),
+        says: Says::Filling,
     }
 }

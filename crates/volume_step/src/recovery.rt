@@ -16,7 +16,7 @@ ghost use Rattle.volume_step.specs.Results.{stored_in_recovery, Fills};
 use crate::answers;
 use journal::journal as sections;
 use layout::SECTOR_SIZE;
-use model::{Phase, Refusal, State, Stepped};
+use model::{Phase, Refusal, State, Step};
 use on_disk::Layout;
 use section::Location;
 use stores::changes;
@@ -31,8 +31,8 @@ pub fn sector_of(v: &[u8], g: Layout, x: Location) -> u64
 }
 
 // A store of the replay goes to sector `at`. Store k is next, if there are more; else the volume is filling.
-pub fn replayed(s: State, at: usize, k: usize, more: bool) -> Stepped
-    ensures { result ≡ stored_in_recovery s at k more }
+pub fn replayed(s: &mut State, at: usize, k: usize, more: bool) -> Step
+    ensures { (result, s.new) ≡ stored_in_recovery s.old at k more }
 {
     if more {
         return answers::stored(s, at, Phase::Recovering(k));
@@ -42,24 +42,24 @@ pub fn replayed(s: State, at: usize, k: usize, more: bool) -> Stepped
 
 // Store k of the replay, which x names: its content goes to `out`; `more` says whether there is one after it.
 pub(crate) fn next_store(
-    s: State,
+    s: &mut State,
     v: &[u8],
     k: usize,
     x: Location,
     more: bool,
     out: &mut [u8],
-) -> Stepped
-    requires { StepOfRecovery s v.now k x more × (length out.old ≡ sector_size) }
-    ensures { (st : List ℕ) → staging_ok s.layout st ≡ true → Fills out.old (step_of s v.now st) result out.new st }
+) -> Result<Step, Refusal>
+    requires { StepOfRecovery s.old v.now k x more × (length out.old ≡ sector_size) }
+    ensures { (st : List ℕ) → staging_ok s.old.layout st ≡ true → Fills out.old (step_of s.old v.now st) result s.new out.new st }
 {
     let g = s.layout;
     let section = sections::section_of(v, g, x.section);
     let sector = section::entry_sector(section, g.width, x.entry);
     if g.provided as u64 <= sector {
-        return answers::refuse(s, Refusal::JournalRange(x.section, x.entry));
+        return Err(Refusal::JournalRange(x.section, x.entry));
     }
     let at = stores::home_store(v, g, section, x.entry, sector as usize, x.store, out);
-    replayed(s, at, k + 1, more)
+    Ok(replayed(s, at, k + 1, more))
 }
 
 // The bytes of the volume that the store which x names changes, of an entry of the logical sector `sector`: they go to the front of `content`. To store

@@ -4,11 +4,11 @@ ghost use Rattle.volume_step.specs.Results.{Leaves, LeavesBoth};
 
 use crate::{next_store, store};
 use layout::SECTOR_SIZE;
-use model::{State, Stepped};
+use model::{Refusal, State, Step};
 
 // Makes one sector store, or none when filling.
-pub fn step(s: State, v: &mut [u8], st: &mut [u8]) -> Stepped
-    ensures { Leaves v.old (step_of s v.old st.old) result v.new st.new }
+pub fn step(s: &mut State, v: &mut [u8], st: &mut [u8]) -> Result<Step, Refusal>
+    ensures { Leaves v.old (step_of s.old v.old st.old) result s.new v.new st.new }
 {
     let mut content = [0u8; SECTOR_SIZE];
     step_through(s, v, st, &mut content)
@@ -16,15 +16,14 @@ pub fn step(s: State, v: &mut [u8], st: &mut [u8]) -> Stepped
 
 // The same with a sector lent for the content, as next_store has it, so that a caller of many steps makes it once.
 pub fn step_through(
-    s: State,
+    s: &mut State,
     v: &mut [u8],
     st: &mut [u8],
     content: &mut [u8; SECTOR_SIZE],
-) -> Stepped
-    ensures { LeavesBoth v.old content.old (step_of s v.old st.old) result v.new content.new st.new }
+) -> Result<Step, Refusal>
+    ensures { LeavesBoth v.old content.old (step_of s.old v.old st.old) result s.new v.new content.new st.new }
 {
-    let stepped = next_store::next_store(s, v, st, content);
-    let answer = stepped.answer;
+    let answer = next_store::next_store(s, v, st, content);
     store::make(v, answer, content);
-    stepped
+    answer
 }

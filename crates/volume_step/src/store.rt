@@ -7,14 +7,14 @@ ghost use Rattle.model.specs.NextStore.{store_named};
 ghost use Rattle.volume_step.specs.Results.{Inside};
 
 use layout::SECTOR_SIZE;
-use model::{Done, StepAnswer};
+use model::{Refusal, Step};
 
 // Stores the first n bytes of `content`, from the volume's byte `byte` on. No other line of the library writes to a volume that has been formatted.
 pub fn put_part(v: &mut [u8], byte: usize, content: &[u8], n: usize)
     requires { (byte + n ≤ length v.old) × (n ≤ length content.now) }
     ensures { v.new ≡ patch v.old byte (part content.now 0 n) }
 {
-    octets::copy_at(v, byte, content, 0, n);
+    v[byte..byte + n].copy_from_slice(&content[..n]);
 }
 
 // Stores a sector.
@@ -26,15 +26,17 @@ fn put(v: &mut [u8], at: usize, content: &[u8; SECTOR_SIZE])
 }
 
 // Makes the store that a step's answer names.
-pub(crate) fn make(v: &mut [u8], answer: StepAnswer, content: &[u8; SECTOR_SIZE])
+pub(crate) fn make(v: &mut [u8], answer: Result<Step, Refusal>, content: &[u8; SECTOR_SIZE])
     requires { Inside v.old (step_answer answer) }
     ensures { v.new ≡ store_named v.old (step_answer answer) content.now }
 {
-    let StepAnswer::Stepped(done, _) = answer else {
-        return;
-    };
-    let Done::Stored(at) = done else {
-        return;
-    };
-    put(v, at, content);
+    if let Ok(
+        Step {
+            stored: Some(at),
+            ..
+        },
+    ) = answer
+    {
+        put(v, at, content);
+    }
 }

@@ -1,80 +1,63 @@
-use mathlib.Core.Path.{refl, sym, ◌∙◌}
+use mathlib.Core.Path.{refl, sym}
 use native.Mathlib.Omega.{arith}
 use Rattle.model.specs.declared.Phase.TheVariants.{Filling}
 use Rattle.model.proofs.States.{state-layout, state-id, state-committing, staged-length, staged-lent, volume-unfit, volume-in}
-use Rattle.volume_step.proofs.Steps.{wrong-loan, lent, unsound, wrong-volume, wrong-staging, runs, idles}
+use Rattle.volume_step.proofs.Steps.{wrong-loan, told, unsound, wrong-volume, wrong-staging, runs, idles}
 use Rattle.volume_step.proofs.next_store.next_store.Goals as goal
 
 pub returns-then-out-ne-SECTOR_SIZE : goal.returns-then-out-ne-SECTOR_SIZE
 returns-then-out-ne-SECTOR_SIZE c =
-    wrong-loan c.args.s c.args.v.now c.args.st.now c.args.out.now c.if-out-ne-SECTOR_SIZE.true c.refuse.result c.refuse.ensures
+    let args = c.args in
+    wrong-loan args.s.now args.v.now args.st.now args.out.now (λ z. omega arith)
 
 pub returns-then-not-state_ok : goal.returns-then-not-state_ok
 returns-then-not-state_ok c =
-    lent c.args.s c.args.v.now c.args.st.now c.args.out.now (omega (arith, c.if-out-ne-SECTOR_SIZE.false)) _ _ _ (unsound c.args.s c.args.v.now c.args.st.now c.args.out.now c.refuse-then-not-state_ok.result c.refuse-then-not-state_ok.ensures (sym c.state_ok.ensures ∙ c.if-not-state_ok.true))
+    let args = c.args in
+    rw (told args.s.now args.v.now args.st.now args.out.now (omega arith)) (unsound args.s.now args.v.now args.st.now args.out.now (cc))
 
 pub layout_fits-requires : goal.layout_fits-requires
-layout_fits-requires c =
-    state-layout c.args.s (sym c.state_ok.ensures ∙ c.if-not-state_ok.false)
+layout_fits-requires c = state-layout c.args.s.now (cc)
 
 pub returns-then-not-layout_fits : goal.returns-then-not-layout_fits
 returns-then-not-layout_fits c =
-    let sound = sym c.state_ok.ensures ∙ c.if-not-state_ok.false in
-    let unfit = sym c.layout_fits.ensures ∙ c.if-not-layout_fits.true in
-    lent c.args.s c.args.v.now c.args.st.now c.args.out.now (omega (arith, c.if-out-ne-SECTOR_SIZE.false)) _ _ _ (wrong-volume c.args.s c.args.v.now c.args.st.now c.args.out.now c.refuse-then-not-layout_fits.result c.refuse-then-not-layout_fits.ensures sound (sym (volume-unfit c.args.s c.args.v.now unfit)))
-
-pub staged_ok-requires : goal.staged_ok-requires
-staged_ok-requires c =
-    (sym c.state_ok.ensures ∙ c.if-not-state_ok.false)
+    let args = c.args in
+    rw (told args.s.now args.v.now args.st.now args.out.now (omega arith))
+    (wrong-volume args.s.now args.v.now args.st.now args.out.now (cc) (sym (volume-unfit args.s.now args.v.now (cc))))
 
 pub returns-then-not-staged_ok : goal.returns-then-not-staged_ok
 returns-then-not-staged_ok c =
-    let sound = sym c.state_ok.ensures ∙ c.if-not-state_ok.false in
-    lent c.args.s c.args.v.now c.args.st.now c.args.out.now (omega (arith, c.if-out-ne-SECTOR_SIZE.false)) _ _ _ (wrong-staging c.args.s c.args.v.now c.args.st.now c.args.out.now c.refuse-then-not-staged_ok.result c.refuse-then-not-staged_ok.ensures sound (sym c.staged_ok.ensures ∙ c.if-not-staged_ok.true))
+    let args = c.args in
+    rw (told args.s.now args.v.now args.st.now args.out.now (omega arith)) (wrong-staging args.s.now args.v.now args.st.now args.out.now (cc) (cc))
 
 pub commit_step-requires : goal.commit_step-requires
 commit_step-requires c =
-    let sound = sym c.state_ok.ensures ∙ c.if-not-state_ok.false in
-    let staging = sym c.staged_ok.ensures ∙ c.if-not-staged_ok.false in
-    let s = c.args.s in
-    let place = state-committing s sound _ c.in-Committing.is in
-    (record { layout = state-layout s sound; long = staged-length s c.args.st.now staging; sector = place.0; id = state-id s sound }, place.1, omega (arith, c.if-out-ne-SECTOR_SIZE.false))
+    let s = c.args.s.now in
+    let place = state-committing s (cc) _ c.in-Committing.is in
+    (record { layout = state-layout s (cc); long = staged-length s c.args.st.now (cc); sector = place.0; id = state-id s (cc) }, place.1, omega arith)
 
 pub write_back_step-requires : goal.write_back_step-requires
 write_back_step-requires c =
-    let sound = sym c.state_ok.ensures ∙ c.if-not-state_ok.false in
-    let fit = sym c.layout_fits.ensures ∙ c.if-not-layout_fits.false in
-    let staging = sym c.staged_ok.ensures ∙ c.if-not-staged_ok.false in
-    (sound, volume-in c.args.s c.args.v.now fit _ c.in-WritingBack.is refl, staging, c.in-WritingBack.is, omega (arith, c.if-out-ne-SECTOR_SIZE.false))
-
-pub scan_step-requires : goal.scan_step-requires
-scan_step-requires c =
-    let sound = sym c.state_ok.ensures ∙ c.if-not-state_ok.false in
-    let fit = sym c.layout_fits.ensures ∙ c.if-not-layout_fits.false in
-    (sound, fit, c.in-Recovering.is, omega (arith, c.if-out-ne-SECTOR_SIZE.false))
+    ((cc), volume-in c.args.s.now c.args.v.now (cc) _ c.in-WritingBack.is refl, (cc), c.in-WritingBack.is, omega arith)
 
 pub returns-in-Filling : goal.returns-in-Filling
 returns-in-Filling c =
-    let sound = sym c.state_ok.ensures ∙ c.if-not-state_ok.false in
-    let fit = sym c.layout_fits.ensures ∙ c.if-not-layout_fits.false in
-    let staging = sym c.staged_ok.ensures ∙ c.if-not-staged_ok.false in
-    lent c.args.s c.args.v.now c.args.st.now c.args.out.now (omega (arith, c.if-out-ne-SECTOR_SIZE.false)) _ _ _ (idles c.args.s c.args.v.now c.args.st.now c.args.out.now sound (volume-in c.args.s c.args.v.now fit Filling c.in-Filling.is refl) staging c.in-Filling.is)
+    let args = c.args in
+    rw (told args.s.now args.v.now args.st.now args.out.now (omega arith))
+    (idles args.s.now args.v.now args.st.now args.out.now (cc) (volume-in args.s.now args.v.now (cc) Filling c.in-Filling.is refl) (cc) c.in-Filling.is)
 
 pub returns-in-Committing : goal.returns-in-Committing
 returns-in-Committing c =
-    let commit-step = c.commit_step in
-    let sound = sym c.state_ok.ensures ∙ c.if-not-state_ok.false in
-    let fit = sym c.layout_fits.ensures ∙ c.if-not-layout_fits.false in
-    let staging = sym c.staged_ok.ensures ∙ c.if-not-staged_ok.false in
-    lent c.args.s c.args.v.now c.args.st.now c.args.out.now (omega (arith, c.if-out-ne-SECTOR_SIZE.false)) _ _ _
-    (runs c.args.s c.args.v.now c.args.st.now c.args.out.now sound (volume-in c.args.s c.args.v.now fit _ c.in-Committing.is refl) staging
-    _ c.in-Committing.is refl commit-step.result _ c.args.st.now (commit-step.ensures c.args.v.now))
+    let args = c.args in
+    rw (told args.s.now args.v.now args.st.now args.out.now (omega arith))
+    (runs args.s.now args.v.now args.st.now args.out.now (cc) (volume-in args.s.now args.v.now (cc) _ c.in-Committing.is refl) (cc)
+    _ c.in-Committing.is refl _ _ _ args.st.now (c.commit_step.ensures args.v.now))
 
 pub returns-in-WritingBack : goal.returns-in-WritingBack
 returns-in-WritingBack c =
-    lent c.args.s c.args.v.now c.args.st.now c.args.out.now (omega (arith, c.if-out-ne-SECTOR_SIZE.false)) _ _ _ c.write_back_step.ensures
+    let args = c.args in
+    rw (told args.s.now args.v.now args.st.now args.out.now (omega arith)) c.write_back_step.ensures
 
 pub returns-in-Recovering : goal.returns-in-Recovering
 returns-in-Recovering c =
-    let staging = sym c.staged_ok.ensures ∙ c.if-not-staged_ok.false in
-    lent c.args.s c.args.v.now c.args.st.now c.args.out.now (omega (arith, c.if-out-ne-SECTOR_SIZE.false)) _ _ _ (c.scan_step.ensures c.args.st.now (staged-lent c.args.s c.args.st.now staging))
+    let args = c.args in
+    rw (told args.s.now args.v.now args.st.now args.out.now (omega arith)) (c.scan_step.ensures args.st.now (staged-lent args.s.now args.st.now (cc)))

@@ -8,23 +8,23 @@ use Rattle.volume_step.proofs.next_store.scan_step.Goals as goal
 
 pub scan-requires : goal.scan-requires
 scan-requires c =
-    (state-layout c.args.s c.requires.0, fit-room c.args.s c.args.v.now c.requires.1, refl)
+    (state-layout c.args.s.now c.requires.0, fit-room c.args.s.now c.args.v.now c.requires.1, refl)
 
 pub locate-x-requires : goal.locate-x-requires
 locate-x-requires c =
-    (state-layout c.args.s c.requires.0, fit-room c.args.s c.args.v.now c.requires.1, c.scan.ensures)
+    (state-layout c.args.s.now c.requires.0, fit-room c.args.s.now c.args.v.now c.requires.1, c.scan.ensures)
 
 pub returns-then-x-g : goal.returns-then-x-g
 returns-then-x-g c =
-    let s = c.args.s in
+    let s = c.args.s.now in
     let v = c.args.v.now in
     let k = c.args.k in
     let past = step_past s.layout v (state-layout s c.requires.0) k c.locate-x.result c.locate-x.ensures c.if-x-g.true in
-    λ st staging. wrong-volume s v st c.args.out.now c.refuse.result c.refuse.ensures c.requires.0 (volume-past s v c.requires.1 k c.requires.2 past)
+    λ st staging. wrong-volume s v st c.args.out.now c.requires.0 (volume-past s v c.requires.1 k c.requires.2 past)
 
 pub next_location-next-requires : goal.next_location-next-requires
 next_location-next-requires c =
-    let s = c.args.s in
+    let s = c.args.s.now in
     let v = c.args.v.now in
     let k = c.args.k in
     let ok = state-layout s c.requires.0 in
@@ -33,7 +33,7 @@ next_location-next-requires c =
 
 pub next_store-requires : goal.next_store-requires
 next_store-requires c =
-    let s = c.args.s in
+    let s = c.args.s.now in
     let v = c.args.v.now in
     let k = c.args.k in
     let x = c.locate-x.result in

@@ -12,22 +12,23 @@ use Rattle.volume_step.proofs.recovery.next_store.Goals as goal
 
 pub section_of-section-requires : goal.section_of-section-requires
 section_of-section-requires c =
-    (state-layout c.args.s c.requires.0.sound, volume-room c.args.s c.args.v.now c.requires.0.fits, c.requires.0.section)
+    (state-layout c.args.s.now c.requires.0.sound, volume-room c.args.s.now c.args.v.now c.requires.0.fits, c.requires.0.section)
 
 pub entry_sector-sector-requires : goal.entry_sector-sector-requires
 entry_sector-sector-requires c =
-    (width-high c.args.s.layout (state-layout c.args.s c.requires.0.sound), c.requires.0.named.entry, c.section_of-section.ensures.1)
+    (width-high c.args.s.now.layout (state-layout c.args.s.now c.requires.0.sound), c.requires.0.named.entry, c.section_of-section.ensures.1)
 
 pub returns-then-g-sector : goal.returns-then-g-sector
 returns-then-g-sector c =
-    let entry-sector = c.entry_sector-sector in
-    let g = c.args.s.layout in
-    let x = c.args.x in
-    λ st staging. journal-range c.args.s c.args.v.now st c.args.out.now c.requires.0.sound c.requires.0.fits (staged-in c.args.s st _ c.requires.0.phase staging refl) c.args.k c.requires.0.phase x c.requires.0.named entry-sector.result (entry-sector.ensures ∙ ap (λ (y : List ℕ). (entry_of g.width y x.entry).sector) c.section_of-section.ensures.0) c.refuse.result c.refuse.ensures c.if-g-sector.true
+    let args = c.args in
+    let pre = c.requires.0 in
+    let s = args.s.now in
+    λ st staging. journal-range s args.v.now st args.out.now pre.sound pre.fits (staged-in s st _ pre.phase staging refl) args.k pre.phase args.x pre.named _
+    (c.entry_sector-sector.ensures ∙ ap (λ (y : List ℕ). (entry_of s.layout.width y args.x.entry).sector) c.section_of-section.ensures.0) c.if-g-sector.true
 
 pub home_store-at-requires : goal.home_store-at-requires
 home_store-at-requires c =
-    let s = c.args.s in
+    let s = c.args.s.now in
     let x = c.args.x in
     let section = c.section_of-section.ensures in
     let there = ap (λ (y : List ℕ). home_count s.layout (entry_of s.layout.width y x.entry)) section.0 in (
@@ -45,17 +46,18 @@ home_store-at-requires c =
 
 pub overflow_add-k : goal.overflow_add-k
 overflow_add-k c =
-    let s = c.args.s in
+    let s = c.args.s.now in
     let v = c.args.v.now in
     record { fits = omega (arith, volume-replay s v c.requires.0.fits c.args.k c.requires.0.phase, steps_high s.layout v (state-layout s c.requires.0.sound)) }
 
 pub returns : goal.returns
 returns c =
-    let entry-sector = c.entry_sector-sector in
-    let section-of = c.section_of-section in
-    let home-store = c.home_store-at in
-    let g = c.args.s.layout in
-    let x = c.args.x in
-    λ st staging.
-    place-told c.args.s c.args.v.now st c.args.out.now c.requires.0.sound c.requires.0.fits (staged-in c.args.s st _ c.requires.0.phase staging refl) c.args.k c.requires.0.phase x c.requires.0.named entry-sector.result (entry-sector.ensures ∙ ap (λ (y : List ℕ). (entry_of g.width y x.entry).sector) section-of.ensures.0) c.if-g-sector.false
-    home-store.result _ (home-store.ensures ∙ ap (λ (y : List ℕ). home_store g c.args.v.now (entry_of g.width y x.entry) x.store) section-of.ensures.0) c.replayed.result c.args.more c.requires.0.goes_on c.replayed.ensures
+    let args = c.args in
+    let pre = c.requires.0 in
+    let s = args.s.now in
+    let x = args.x in
+    let section = c.section_of-section.ensures.0 in
+    λ st staging. place-told s args.v.now st args.out.now pre.sound pre.fits (staged-in s st _ pre.phase staging refl) args.k pre.phase x pre.named _
+    (c.entry_sector-sector.ensures ∙ ap (λ (y : List ℕ). (entry_of s.layout.width y x.entry).sector) section) c.if-g-sector.false
+    _ _ (c.home_store-at.ensures ∙ ap (λ (y : List ℕ). home_store s.layout args.v.now (entry_of s.layout.width y x.entry) x.store) section)
+    (c.replayed.result, c.replayed.new.s) args.more pre.goes_on c.replayed.ensures

@@ -1,16 +1,9 @@
 use Prim.Native.Nat.{◌*◌}
 use mathlib.Core.Path.{ap, ◌∙◌}
-use native.Mathlib.Omega.{arith}
+use borrow.Author.Rules.{rules}
 use Rattle.octets.specs.Parts.{patch}
 use Rattle.octets.proofs.Parts.{part-all}
-use borrow.Author.Rules.{rules}
 use Rattle.volume_step.proofs.store.put.Goals as goal
-
-pub overflow_mul-at : goal.overflow_mul-at
-overflow_mul-at c = omega (arith, c.requires)
-
-pub put_part-requires : goal.put_part-requires
-put_part-requires c = (omega (arith, c.requires), search rules)
 
 pub returns : goal.returns
 returns c =
