@@ -10,8 +10,7 @@ use Rattle.digest.specs.declared.TooLong.{TooLong}
 use Rattle.std.specs.Prelude.{Result, Ok}
 use Rattle.digest.specs.Pieces.{fresh_of, filled_of, absorb_of, updated, update_of, close_of}
 use Rattle.digest.specs.Sha256.{sha256}
-use Rattle.digest.specs.Sha256.Promise.{update-taken, close-behind}
-use Rattle.digest.proofs.Theorems.{answers-differ}
+use Rattle.digest.specs.Sha256.Promise.{update-given, close-behind}
 use Rattle.hmac.specs.declared.Key.{Key}
 use Rattle.hmac.specs.Hmac.{block_size, ipad, opad, block_of}
 use Rattle.hmac.specs.Kept.{hash_behind, key_of, resumed, mac_of}
@@ -30,9 +29,10 @@ close-resumed b m e = ap (λ (s : State). close_of (absorb_of s m)) (sym (resume
 -- ---- the calls of the digest, where the limit is kept
 
 -- one block is within the limit
-pub added : (b : List ℕ) (f : State) (r : Result State TooLong) → length b ≡ block_size → f ≡ fresh_of → updated f r ≡ update_of f b → r ≡ Ok (absorb_of fresh_of b)
+pub added : (b : List ℕ) (f : State) (r : Result State TooLong) → length b ≡ block_size → f ≡ fresh_of → updated f r ≡ update_of f b → r ≡ Ok (absorb_of f b)
 added b f r size ef e =
-    answers-differ.0 f r (Ok (absorb_of fresh_of b)) (e ∙ ap (λ (s : State). update_of s b) ef ∙ update-taken fresh_of b (omega arith))
+    let count : f.count ≡ 0 = ap (λ (s : State). s.count) ef in
+    update-given f b r (omega arith) e
 
 -- what is kept of a key, from its block
 pub kept : (k b p q h g : List ℕ) → b ≡ block_of k → p ≡ map (λ x. bit_xor x ipad) b → q ≡ map (λ x. bit_xor x opad) b → h ≡ hash_behind p → g ≡ hash_behind q

@@ -10,13 +10,9 @@ use lib.Seq.{length-take-le}
 use Rattle.std.proofs.lemmas.List.{get_or_default}
 use Rattle.std.proofs.lemmas.List.Edits.{map_over_more}
 use borrow.Author.Tests.{le-ltb, lt-ltb}
-use Rattle.std.specs.Prelude.{Result, Ok}
 use Rattle.octets.proofs.Parts.{drop-replicate}
-use Rattle.digest.specs.declared.TooLong.{TooLong}
-use Rattle.digest.specs.Pieces.{limit, closed, digest_of}
 use Rattle.digest.specs.Sha256.{sha256}
-use Rattle.digest.specs.Sha256.Promise.{length-sha256, digest-taken}
-use Rattle.digest.proofs.Theorems.{answers-differ}
+use Rattle.digest.specs.Sha256.Promise.{length-sha256}
 use Rattle.hmac.specs.Hmac.{block_size, shortened, block_of, padded}
 
 -- ---- the key as one block
@@ -51,10 +47,6 @@ unfolding block_of
 long-key k d past e =
     let size : length (sha256 k) ≡ 32 = length-sha256 k in
     rw (e, shortened-long k past, size)
-
--- the digest of a key within the limit
-pub digest-is : (k : List ℕ) (r : Result (List ℕ) TooLong) → length k ≤ limit → closed r ≡ digest_of k → r ≡ Ok (sha256 k)
-digest-is k r fits e = answers-differ.1 r (Ok (sha256 k)) (e ∙ digest-taken k fits)
 
 -- ---- a block xored
 

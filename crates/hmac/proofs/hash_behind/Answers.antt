@@ -11,5 +11,5 @@ unwrap-requires c = rw (added c.args.block c.fresh.result c.update.result (omega
 pub returns : goal.returns
 returns c =
     let e = added c.args.block c.fresh.result c.update.result (omega arith) c.fresh.ensures c.update.ensures in
-    let same : c.unwrap.result ≡ absorb_of fresh_of c.args.block = cc (c.unwrap.ensures, e) in
+    let same : c.unwrap.result ≡ absorb_of fresh_of c.args.block = cc (c.unwrap.ensures, e, c.fresh.ensures) in
     ap (λ (s : State). s.words) same
