@@ -1,15 +1,16 @@
 -- The code over a state's buffer: one turn of each loop over the words, and the state put together and taken apart.
-use Prim.Native.Nat.{ℕ, ◌+◌, ◌*◌, ◌≤◌, ◌<◌}
+use Prim.Native.Nat.{ℕ, ◌+◌, ◌-◌, ◌*◌, ◌≤◌, ◌<◌}
 use native.Mathlib.Numerals.{add-one}
 use native.Mathlib.Omega.{arith}
 use mathlib.Core.List.{List, [], ◌++◌, append_assoc}
 use mathlib.Core.Path.{◌≡◌, refl, sym, ap, ◌∙◌}
-use lib.ListN.{length, get_or, take, set, replicate}
-use lib.Seq.{take-suc, take-suc-set, take_all, length-take-le}
+use lib.ListN.{length, get_or, take, set}
+use lib.Seq.{take-suc, take-suc-set, take_all, length-take-le, drop-drop}
+use borrow.Rule.Slice.PartMut.{put_mid}
 use Rattle.octets.specs.Numbers.{le, value}
 use Rattle.octets.specs.Parts.{part, patch}
 use Rattle.octets.proofs.Numbers.{length-le}
-use Rattle.octets.proofs.Parts.{length_part, length-patch, take-patch, patch-all, patch-join}
+use Rattle.octets.proofs.Parts.{length-patch, take-patch, patch-join}
 use Rattle.digest.specs.declared.State.{State}
 use Rattle.c_numbers.specs.Numbers.{numbers_in}
 use Rattle.c_numbers.specs.Sizes.{digest_state_size}
@@ -43,6 +44,12 @@ put-turn ws a b c i x l fits e ex ec =
 
 -- ---- a state put together, and taken apart
 
+-- a part written over by a copy
+pub overwritten : (l s : List ℕ) (at end : ℕ) → at + length s ≡ end → put_mid at (end - at) l s ≡ patch l at s
+overwritten l s at end e =
+    let k : end - at ≡ length s = omega arith in
+    rw (k, drop-drop)
+
 -- words, tail and count, written one behind the other
 pub written : (s : State) (a b c d : List ℕ) → length a ≡ digest_state_size → b ≡ patch a 0 (word_bytes_of s.words) → length s.words ≡ 8
     → length s.tail ≡ 64 → c ≡ patch b tail_at s.tail → d ≡ patch c count_at (le 8 s.count) → d ≡ encode_of s
@@ -62,10 +69,6 @@ written s a b c d la eb eight full ec ed =
     ∙ append_assoc (word_bytes_of s.words) s.tail (le 8 s.count)
 
 -- words, tail and count, read from their places
-pub read : (b ws t : List ℕ) (n : ℕ) → length b ≡ digest_state_size → ws ≡ words_of 8 b → t ≡ patch (replicate 64 0) 0 (part b tail_at 64)
-    → n ≡ value (part b count_at 8) → record { words = ws; tail = t; count = n } ≡ decode_of b
+pub read : (b ws t : List ℕ) (n : ℕ) → ws ≡ words_of 8 b → t ≡ part b tail_at 64 → n ≡ value (part b count_at 8) → record { words = ws; tail = t; count = n } ≡ decode_of b
 unfolding decode_of
-read b ws t n l ew et en =
-    let size : length (part b tail_at 64) ≡ 64 = length_part b tail_at 64 (omega arith) in
-    let tail : t ≡ part b tail_at 64 = et ∙ patch-all (replicate 64 0) (part b tail_at 64) size in
-    rw (ew, tail, en)
+read b ws t n ew et en = rw (ew, et, en)

@@ -21,15 +21,13 @@ pub fn sha256(message: &[u8], digest: &mut [u8]) -> u32
     if digest.len() != digest_size() {
         return wrong_length();
     }
-    let closed = digest::sha256(message);
-    let answer = closed.answer;
-    let number = digest::number(answer);
-    if number != done() {
-        return number;
+    match digest::sha256(message) {
+        Ok(bytes) => {
+            put_digest(bytes, digest);
+            done()
+        }
+        Err(e) => u32::from(e),
     }
-    let bytes = closed.digest;
-    put_digest(bytes, digest);
-    number
 }
 
 // The state before any piece. Refused where its buffer has a wrong length.
@@ -50,15 +48,13 @@ pub fn update(state: &mut [u8], piece: &[u8]) -> u32
     if state.len() != digest_state_size() {
         return wrong_length();
     }
-    let updated = digest::update(decode(state), piece);
-    let answer = updated.answer;
-    let number = digest::number(answer);
-    if number != done() {
-        return number;
+    match digest::update(decode(state), piece) {
+        Ok(next) => {
+            encode(next, state);
+            done()
+        }
+        Err(e) => u32::from(e),
     }
-    let next = updated.state;
-    encode(next, state);
-    number
 }
 
 // The digest of all the pieces; the state stays, and may take further ones. Refused where a buffer has a wrong length, or the state is
@@ -72,13 +68,11 @@ pub fn finish(state: &[u8], digest: &mut [u8]) -> u32
     if digest.len() != digest_size() {
         return wrong_length();
     }
-    let closed = digest::finish(decode(state));
-    let answer = closed.answer;
-    let number = digest::number(answer);
-    if number != done() {
-        return number;
+    match digest::finish(decode(state)) {
+        Ok(bytes) => {
+            put_digest(bytes, digest);
+            done()
+        }
+        Err(e) => u32::from(e),
     }
-    let bytes = closed.digest;
-    put_digest(bytes, digest);
-    number
 }

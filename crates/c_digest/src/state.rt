@@ -7,7 +7,7 @@ ghost use Rattle.std.specs.Prelude.{◌≡◌, length};
 ghost use Rattle.octets.specs.Parts.{patch};
 ghost use Rattle.digest.specs.Sha256.{digest_size};
 ghost use Rattle.c_numbers.specs.Sizes.{digest_state_size};
-ghost use Rattle.c_digest.specs.DigestState.{tail_at, words_of, word_bytes_of, encode_of, decode_of};
+ghost use Rattle.c_digest.specs.DigestState.{words_of, word_bytes_of, encode_of, decode_of};
 
 use digest::State;
 
@@ -21,7 +21,7 @@ pub fn put_digest(bytes: [u8; 32], buffer: &mut [u8])
     requires { length buffer.old ≡ digest_size }
     ensures { buffer.new ≡ bytes }
 {
-    octets::copy_at(buffer, 0, &bytes, 0, 32);
+    buffer.copy_from_slice(&bytes);
 }
 
 // The state in a buffer of its length.
@@ -31,13 +31,9 @@ pub fn decode(buffer: &[u8]) -> State
 {
     let words = read_words(buffer);
     let mut tail = [0u8; 64];
-    octets::copy_at(&mut tail, 0, buffer, TAIL_AT, 64);
+    tail.copy_from_slice(&buffer[TAIL_AT..TAIL_AT + 64]);
     let count = octets::number(buffer, COUNT_AT, 8);
-    State {
-        words: words,
-        tail: tail,
-        count: count,
-    }
+    State { words, tail, count }
 }
 
 // The words of the state in a buffer.
@@ -46,10 +42,8 @@ fn read_words(buffer: &[u8]) -> [u32; 8]
     ensures { result ≡ words_of 8 buffer.now }
 {
     let mut words = [0u32; 8];
-    let mut i: usize = 0;
-    while i < 8 {
-        words[i] = octets::number(buffer, 4 * i, 4) as u32;
-        i += 1;
+    for (i, word) in words.iter_mut().enumerate() {
+        *word = octets::number(buffer, 4 * i, 4) as u32;
     }
     words
 }
@@ -59,12 +53,9 @@ pub fn encode(s: State, buffer: &mut [u8])
     requires { length buffer.old ≡ digest_state_size }
     ensures { buffer.new ≡ encode_of s }
 {
-    let words = s.words;
-    put_words(words, buffer);
-    let tail = s.tail;
-    put_tail(tail, buffer);
-    let count = s.count;
-    octets::put_number(buffer, COUNT_AT, 8, count);
+    put_words(s.words, buffer);
+    buffer[TAIL_AT..TAIL_AT + 64].copy_from_slice(&s.tail);
+    octets::put_number(buffer, COUNT_AT, 8, s.count);
 }
 
 // The words written from index 0.
@@ -72,24 +63,7 @@ fn put_words(words: [u32; 8], buffer: &mut [u8])
     requires { length buffer.old ≡ digest_state_size }
     ensures { (buffer.new ≡ patch buffer.old 0 (word_bytes_of words)) × (length words ≡ 8) }
 {
-    let mut i: usize = 0;
-    while i < 8 {
-        octets::put_number(buffer, 4 * i, 4, wide(words[i]));
-        i += 1;
+    for (i, word) in words.iter().enumerate() {
+        octets::put_number(buffer, 4 * i, 4, u64::from(*word));
     }
-}
-
-// The tail copied behind the words.
-fn put_tail(tail: [u8; 64], buffer: &mut [u8])
-    requires { length buffer.old ≡ digest_state_size }
-    ensures { (buffer.new ≡ patch buffer.old tail_at tail) × (length tail ≡ 64) }
-{
-    octets::copy_at(buffer, TAIL_AT, &tail, 0, 64);
-}
-
-// A word as a u64.
-fn wide(w: u32) -> u64
-    ensures { result ≡ w }
-{
-    w as u64
 }

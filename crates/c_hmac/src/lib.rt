@@ -19,13 +19,11 @@ pub fn hmac_sha256(key: &[u8], message: &[u8], digest: &mut [u8]) -> u32
     if digest.len() != digest_size() {
         return wrong_length();
     }
-    let made = hmac::hmac(key, message);
-    let answer = made.answer;
-    let number = hmac::number(answer);
-    if number != done() {
-        return number;
+    match hmac::hmac(key, message) {
+        Ok(bytes) => {
+            put_digest(bytes, digest);
+            done()
+        }
+        Err(e) => u32::from(e),
     }
-    let bytes = made.mac;
-    put_digest(bytes, digest);
-    number
 }

@@ -1,29 +1,35 @@
 -- What the functions of pieces.rt leave, over plain lists: a block put together, a piece that is kept whole, a piece that fills a block.
 use Prim.Native.Nat.{ℕ, zero, suc, ◌+◌, ◌-◌, ◌*◌, ◌/◌, ◌%◌, ◌≤◌, ◌<◌}
-use native.Mathlib.Nat.{zero-add}
 use native.Mathlib.Numerals.{add-one}
 use native.Mathlib.Omega.{arith}
-use mathlib.Core.Path.{◌≡◌, refl, sym, ap, ◌∙◌}
+use mathlib.Core.Path.{◌≡◌, sym, ap, ◌∙◌}
 use mathlib.Core.List.{List, ◌++◌, append_assoc, append-nil}
-use lib.ListN.{length, take, drop, replicate, length-append, length-drop, take-append-drop, length-replicate}
+use lib.ListN.{length, take, drop, replicate, length-append, length-drop, take-append-drop}
 use lib.Seq.{take_all, take_at, drop-append-add, length-take-le}
-use Rattle.octets.specs.Parts.{part, patch}
-use Rattle.octets.proofs.Parts.{patch-join, part-all, drop-replicate}
+use borrow.Rule.Slice.PartMut.{put_mid}
+use Rattle.std.proofs.lemmas.List.{drop_at}
+use Rattle.std.proofs.Common.{drop-drop}
+use Rattle.octets.specs.Parts.{part}
+use Rattle.octets.proofs.Parts.{drop-replicate}
 use Rattle.digest.specs.declared.State.{State}
 use Rattle.compression.specs.Compression.{compress_of, hash_of}
 use Rattle.digest.specs.Pieces.{held_of, filled_of, absorb_of}
 
 -- ---- blocks
 
-hash-step : (i : ℕ) (h m : List ℕ) → hash_of (i + 1) h m ≡ compress_of (hash_of i h m) (part m (64 * i) 64)
-unfolding hash_of
-hash-step i h m = rw add-one
+-- a turn of the loop over the blocks: i of them are hashed, the next is c, and s is left behind it
+module _ (i : ℕ) (h₀ h m r c s x : List ℕ) (er : r ≡ drop (64 * i) m) (e : r ≡ c ++ s) (size : length c ≡ 64) where
+  pub rest-turn : s ≡ drop (64 * (i + 1)) m
+  rest-turn =
+      let n : 64 * (i + 1) ≡ 64 * i + 64 = omega arith in
+      let behind : drop 64 r ≡ s = ap (drop 64) e ∙ drop_at c s 64 size in
+      rw (n, ← drop-drop, ← er) (sym behind)
 
--- a turn of the loop over the blocks
-pub hash-turn : (i : ℕ) (h₀ h m b r : List ℕ) → h ≡ hash_of i h₀ m → b ≡ part m (64 * i) (64 * i + 64 - 64 * i) → r ≡ compress_of h b → r ≡ hash_of (i + 1) h₀ m
-hash-turn i h₀ h m b r e y x =
-    let size : 64 * i + 64 - 64 * i ≡ 64 = omega arith in
-    cc (hash-step i h₀ m)
+  pub hash-turn : h ≡ hash_of i h₀ m → x ≡ compress_of h c → x ≡ hash_of (i + 1) h₀ m
+  unfolding hash_of
+  hash-turn eh ex =
+      let block : c ≡ part m (64 * i) 64 = sym (ap (take 64) (sym er ∙ e) ∙ take_at c s 64 size) in
+      rw (add-one, ← eh, ← block) ex
 
 -- a first block by itself
 hash-first : (n : ℕ) (h b q : List ℕ) → length b ≡ 64 → hash_of (suc n) h (b ++ q) ≡ hash_of n (compress_of h b) q
@@ -39,18 +45,17 @@ unfolding filled_of
 full l e = rw e (append-nil l)
 
 -- two copies into zeros: the first n bytes of t, then p
-pub fills : (n : ℕ) (t p a r : List ℕ) → length t ≡ 64 → n + length p ≤ 64 → a ≡ patch (replicate 64 0) 0 (part t 0 n) → r ≡ patch a n (part p 0 (length p))
-    → r ≡ filled_of (take n t ++ p)
+pub fills : (n : ℕ) (t p a b : List ℕ) → length t ≡ 64 → n + length p ≤ 64 → a ≡ take n t → b ≡ p
+    → put_mid n (n + length p - n) (a ++ drop n (replicate 64 0)) b ≡ filled_of (take n t ++ p)
 unfolding filled_of
-fills n t p a r e l ea er =
+fills n t p a b e l ea eb =
     let front : length (take n t) ≡ n = length-take-le n t (omega arith) in
+    let k : n + length p - n ≡ length p = omega arith in
     let size : length (take n t ++ p) ≡ n + length p = length-append (take n t) p ∙ ap (λ (k : ℕ). k + length p) front in
-    let join : patch (patch (replicate 64 0) 0 (take n t)) n p ≡ patch (replicate 64 0) 0 (take n t ++ p) =
-    ap (λ (k : ℕ). patch (patch (replicate 64 0) 0 (take n t)) k p) (sym front ∙ sym (zero-add (length (take n t))))
-    ∙ patch-join (replicate 64 0) 0 (take n t) p (omega (arith, length-replicate {A = ℕ} 64 0)) in
-    let rest : drop (0 + length (take n t ++ p)) (replicate {A = ℕ} 64 0) ≡ replicate (64 - length (take n t ++ p)) 0 =
-    rw (zero-add) (drop-replicate (length (take n t ++ p)) 64 0 (omega arith)) in
-    rw (er, ea, part-all p (length p) refl, join, rest)
+    let zeros : drop (length p) (drop n (replicate {A = ℕ} 64 0)) ≡ replicate (64 - (n + length p)) 0 =
+    drop-drop (length p) n (replicate {A = ℕ} 64 0) ∙ drop-replicate (n + length p) 64 0 l in
+    rw (ea, eb, k, take_at (take n t) (drop n (replicate 64 0)) n front, drop_at (take n t) (drop n (replicate 64 0)) n front, zeros, size)
+    (sym (append_assoc (take n t) p (replicate (64 - (n + length p)) 0)))
 
 -- ---- a piece
 

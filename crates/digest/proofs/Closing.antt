@@ -1,39 +1,44 @@
 -- What closing leaves, over plain lists: the padding put together, the words written out, and each way through the calls.
-use Prim.Native.Nat.{ℕ, ◌+◌, ◌*◌, ◌≤◌, ◌<◌}
+use Prim.Native.Nat.{ℕ, zero, suc, ◌+◌, ◌*◌, ◌≤◌, ◌<◌}
 use mathlib.Core.Path.{◌≡◌, refl, sym, ap, ◌∙◌}
 use mathlib.Core.List.{List, [], ◌∷◌, ◌++◌, append_assoc, append-nil, flatten}
-use native.Mathlib.Nat.{zero-add}
+use native.Mathlib.Nat.{zero-add, div-one}
 use native.Mathlib.Numerals.{add-one}
 use native.Mathlib.Omega.{arith}
 use native.Mathlib.Decide.{dec_le}
 use lib.ListN.{length, get_or, take, set, replicate, length-append}
 use lib.Seq.{take-suc}
+use borrow.Rule.Slice.PartMut.{put_mid}
+use Rattle.std.specs.Int.{w32, w64, to_be_bytes, bytes_high_first}
+use Rattle.std.proofs.lemmas.Slice.{take-put_mid}
 use borrow.Author.Tests.{le-ltb, lt-ltb}
 use Rattle.octets.specs.Answer.{taken, number_in}
 use Rattle.octets.specs.Numbers.{be}
-use Rattle.octets.specs.Parts.{part, patch}
 use Rattle.octets.proofs.Numbers.{length-be}
-use Rattle.octets.proofs.Parts.{part-all, take-patch, take-replicate}
-use Rattle.digest.specs.declared.Answer.TheVariants.{Taken, TooLong}
+use Rattle.octets.proofs.Parts.{take-replicate}
 use Rattle.digest.specs.declared.State.{State}
-use Rattle.digest.specs.declared.Updated.{Updated}
-use Rattle.digest.specs.Answer.{answer_of}
-use Rattle.digest.specs.Pieces.{limit, behind_of, fresh_of, absorb_of, UpdateOutcome, updated, refused_piece_of, update_of, DigestOutcome, refused_digest_of, close_of, finish_of, digest_of}
+use Rattle.digest.specs.Pieces.{limit, behind_of, fresh_of, absorb_of, UpdateOutcome, refused_piece_of, update_of, DigestOutcome, refused_digest_of, close_of, finish_of, digest_of}
 use Rattle.digest.specs.Sha256.{sha256}
-use Rattle.digest.specs.Sha256.Promise.{update-taken, update-refused, closing, absorb-both, close-whole, digest-taken}
+use Rattle.digest.specs.Sha256.Promise.{update-taken, update-refused, count-absorb, closing, absorb-both, close-whole, digest-taken}
 use Rattle.digest.specs.Padding.{zero_bytes_of, padding_of, bytes_of}
 
 -- ---- the padding
 
+-- the library's big-endian bytes are the standard's
+high-first : (k n : ℕ) → bytes_high_first k n ≡ be k n
+high-first zero n = refl
+high-first (suc zero) n = rw div-one
+high-first (suc (suc k)) n = rw (high-first (suc k) n)
+
 -- 0x80 and the length, copied into zeros
-pub padded : (c z : ℕ) (x l : List ℕ) → z ≡ zero_bytes_of c → z ≤ 63 → x ≡ be 8 (8 * c) → l ≡ patch (set (replicate 72 0) 0 128) (z + 1) (part x 0 8)
-    → take (z + 9) l ≡ padding_of c
+pub padded : (c z k : ℕ) (x : List ℕ) → z ≡ zero_bytes_of c → z ≤ 63 → x ≡ to_be_bytes w64 (8 * c)
+    → take (z + 9) (put_mid (z + 1) k (set (replicate 72 0) 0 128) x) ≡ padding_of c
 unfolding padding_of
-padded c z x l ez le ex el =
-    let size : length x ≡ 8 = ap length ex ∙ length-be 8 (8 * c) in
-    let end : z + 9 ≡ z + 1 + length x = omega arith in
+padded c z k x ez le ex =
+    let bytes : x ≡ be 8 (8 * c) = ex ∙ high-first 8 (8 * c) in
+    let size : length x ≡ 8 = ap length bytes ∙ length-be 8 (8 * c) in
     let zeros : take z (replicate {A = ℕ} 71 0) ≡ replicate z 0 = take-replicate z 71 0 (omega arith) in
-    rw (el, part-all x 8 size, end, take-patch (set (replicate 72 0) 0 128) (z + 1) x (omega arith), add-one, zeros, ez, ex)
+    rw (take-put_mid (z + 1) k (set (replicate 72 0) 0 128) x (z + 9) (omega arith) (omega arith), add-one, zeros, ez, bytes)
 
 -- ---- the words of a hash value
 
@@ -46,12 +51,12 @@ bytes_one : (w : ℕ) → bytes_of (w ∷ []) ≡ be 4 w
 unfolding bytes_of
 bytes_one w = refl
 
-pub bytes-turn : (h out b r : List ℕ) (i : ℕ) → i < length h → 4 * i + 4 ≤ length out → take (4 * i) out ≡ bytes_of (take i h) → b ≡ be 4 (get_or h i 0)
-    → r ≡ patch out (4 * i) (part b 0 4) → take (4 * (i + 1)) r ≡ bytes_of (take (i + 1) h)
-bytes-turn h out b r i l fits e eb er =
-    let size : length b ≡ 4 = ap length eb ∙ length-be 4 (get_or h i 0) in
-    let end : 4 * (i + 1) ≡ 4 * i + length b = omega arith in
-    rw (er, part-all b 4 size, end, take-patch out (4 * i) b (omega arith), add-one, take-suc h i 0 l, bytes-append, bytes_one, e, eb)
+pub bytes-turn : (h out x : List ℕ) (i k : ℕ) → i < length h → 4 * i + 4 ≤ length out → take (4 * i) out ≡ bytes_of (take i h) → x ≡ to_be_bytes w32 (get_or h i 0)
+    → take (4 * (i + 1)) (put_mid (4 * i) k out x) ≡ bytes_of (take (i + 1) h)
+bytes-turn h out x i k l fits e ex =
+    let bytes : x ≡ be 4 (get_or h i 0) = ex ∙ high-first 4 (get_or h i 0) in
+    let size : length x ≡ 4 = ap length bytes ∙ length-be 4 (get_or h i 0) in
+    rw (take-put_mid (4 * i) k out x (4 * (i + 1)) (omega arith) (omega arith), add-one, take-suc h i 0 l, bytes-append, bytes_one, e, bytes)
 
 -- ---- the calls, a way through each at a time
 
@@ -59,64 +64,56 @@ pub closed : (s a : State) (l r : List ℕ) → l ≡ padding_of s.count → a �
 unfolding close_of
 closed s a l r el ea er = rw (er, ea, el)
 
-pub update-past : (s : State) (p : List ℕ) (u : UpdateOutcome) → limit < s.count + length p → u ≡ refused_piece_of s → u ≡ update_of s p
-update-past s p u h e = e ∙ sym (update-refused s p h)
-
 pub update-fits : (s t : State) (p : List ℕ) → s.count + length p ≤ limit → t ≡ absorb_of s p → record { answer = taken tt; state = t } ≡ update_of s p
 update-fits s t p h e = rw (e, update-taken s p h)
 
-pub finish-past : (s : State) (r : DigestOutcome) → limit < s.count → r ≡ refused_digest_of → r ≡ finish_of s
+pub finish-past : (s : State) → limit < s.count → refused_digest_of ≡ finish_of s
 unfolding finish_of
-finish-past s r h e = rw (lt-ltb limit s.count h, e)
+finish-past s h = rw (lt-ltb limit s.count h)
 
 pub finish-fits : (s : State) (d : List ℕ) → s.count ≤ limit → d ≡ close_of s → record { answer = taken tt; digest = d } ≡ finish_of s
 unfolding finish_of
 finish-fits s d h e = rw (le-ltb limit s.count h, e)
 
--- what an answer says of the lengths
-
-module _ (s : State) (p : List ℕ) (u : Updated) (e : updated u ≡ update_of s p) where
-  answer-is : {o : UpdateOutcome} → update_of s p ≡ o → number_in (answer_of u.answer) ≡ number_in o.answer
-  answer-is q = ap (λ (o : UpdateOutcome). number_in o.answer) (e ∙ q)
-
-  answer-fits : u.answer ≡ Taken → s.count + length p ≤ limit
-  answer-fits a = side (dec_le (s.count + length p) limit)
-    where
-      side : Dec (s.count + length p ≤ limit) → s.count + length p ≤ limit
-      side (yes h) = h
-      side (no h) = absurd (let z : ◌≡◌ {A = ℕ} 0 1 = rw a at (answer-is (update-refused s p (omega arith))) in omega arith)
-
-  answer-past : u.answer ≡ TooLong → limit < s.count + length p
-  answer-past a = side (dec_le (s.count + length p) limit)
-    where
-      side : Dec (s.count + length p ≤ limit) → limit < s.count + length p
-      side (no h) = omega arith
-      side (yes h) = absurd (let z : ◌≡◌ {A = ℕ} 1 0 = rw a at (answer-is (update-taken s p h)) in omega arith)
-
-digest-past : (m : List ℕ) (r : DigestOutcome) → limit < length m → r ≡ refused_digest_of → r ≡ digest_of m
+digest-past : (m : List ℕ) → limit < length m → refused_digest_of ≡ digest_of m
 unfolding digest_of
-digest-past m r h e = rw (lt-ltb limit (length m) h, e)
+digest-past m h = rw (lt-ltb limit (length m) h)
 
--- a message in one piece
-module _ (m : List ℕ) (u : Updated) (r : DigestOutcome) (e : updated u ≡ update_of fresh_of m) where
-  pub whole-past : u.answer ≡ TooLong → r ≡ refused_digest_of → r ≡ digest_of m
-  whole-past a = digest-past m r (rw zero-add at (answer-past fresh_of m u e a))
+-- a message in one piece, by what adding it to the state f before any piece gave
+module _ (m : List ℕ) (f : State) (ef : f ≡ fresh_of) where
+  count-fresh : f.count + length m ≡ length m
+  count-fresh = ap (λ (s : State). s.count + length m) ef ∙ zero-add (length m)
 
-  pub whole-fits : u.answer ≡ Taken → r ≡ finish_of u.state → r ≡ digest_of m
+  pub whole-past : refused_piece_of f ≡ update_of f m → refused_digest_of ≡ digest_of m
+  whole-past e = side (dec_le (length m) limit)
+    where
+      side : Dec (length m ≤ limit) → refused_digest_of ≡ digest_of m
+      side (no h) = digest-past m (omega arith)
+      side (yes h) = absurd (let z : ◌≡◌ {A = ℕ} 1 0 = ap (λ (o : UpdateOutcome). number_in o.answer) (e ∙ update-taken f m (omega (arith, count-fresh))) in omega arith)
+
+  pub whole-fits : (s : State) (r : DigestOutcome) → record { answer = taken tt; state = s } ≡ update_of f m → r ≡ finish_of s → r ≡ digest_of m
   unfolding flatten
-  whole-fits a er =
-      let fits : length m ≤ limit = rw zero-add at (answer-fits fresh_of m u e a) in
-      let piece : flatten (m ∷ []) ≡ m = append-nil m in
-      er ∙ ap (λ (x : UpdateOutcome). finish_of x.state) e ∙ closing (m ∷ []) (rw piece fits)
-      ∙ ap (λ (x : List ℕ). record { answer = taken tt; digest = sha256 x }) piece ∙ sym (digest-taken m fits)
+  whole-fits s r e er = side (dec_le (length m) limit)
+    where
+      piece : flatten (m ∷ []) ≡ m
+      piece = append-nil m
+
+      side : Dec (length m ≤ limit) → r ≡ digest_of m
+      side (no h) = absurd (let z : ◌≡◌ {A = ℕ} 0 1 = ap (λ (o : UpdateOutcome). number_in o.answer) (e ∙ update-refused f m (omega (arith, count-fresh))) in omega arith)
+      side (yes h) =
+          er ∙ ap (λ (x : UpdateOutcome). finish_of x.state) (e ∙ ap (λ (x : State). update_of x m) ef) ∙ closing (m ∷ []) (rw piece h)
+          ∙ ap (λ (x : List ℕ). record { answer = taken tt; digest = sha256 x }) piece ∙ sym (digest-taken m h)
 
 -- a message in two pieces: two parts behind a state, and then from nothing
+
+pub counted : (s a : State) (p : List ℕ) → a ≡ absorb_of s p → a.count ≡ s.count + length p
+counted s a p e = ap (λ (x : State). x.count) e ∙ count-absorb s p
 
 pub behind : (s a b : State) (p q r : List ℕ) → length s.tail ≡ 64 → a ≡ absorb_of s p → b ≡ absorb_of a q → r ≡ close_of b → r ≡ close_of (absorb_of s (p ++ q))
 behind s a b p q r full ea eb er = er ∙ ap close_of (eb ∙ ap (λ (x : State). absorb_of x q) ea ∙ absorb-both s p q full)
 
-pub two_past : (p q : List ℕ) (r : DigestOutcome) → limit < length p + length q → r ≡ refused_digest_of → r ≡ digest_of (p ++ q)
-two_past p q r h = digest-past (p ++ q) r (omega (arith, h, length-append p q))
+pub two_past : (p q : List ℕ) → limit < length p + length q → refused_digest_of ≡ digest_of (p ++ q)
+two_past p q h = digest-past (p ++ q) (omega (arith, h, length-append p q))
 
 pub two-fit : (p q : List ℕ) (s : State) (d : List ℕ) → length p + length q ≤ limit → s ≡ fresh_of → d ≡ close_of (absorb_of (behind_of s.words 0) (p ++ q))
     → record { answer = taken tt; digest = d } ≡ digest_of (p ++ q)

@@ -1,11 +1,9 @@
--- The number and values of each answer, R71 and R100. Nothing is returned beside a digest's refusal.
+-- The number and values of the refusal, R71 and R100. Nothing is returned beside a digest's refusal.
 --
--- answer_of a : the code's answer a: taken, or refused with 1 where the digest's limit is passed
+-- answer_of e : what the code's error e answers: refused with 1, the digest's limit is passed
 use Rattle.std.specs.Prelude.{ℕ, []}
-use Rattle.octets.specs.Answer.{Answer, taken, refuse}
-use Rattle.digest.specs.declared.Answer as code
-use Rattle.digest.specs.declared.Answer.TheVariants.{Taken, TooLong}
+use Rattle.octets.specs.Answer.{Answer, refuse}
+use Rattle.digest.specs.declared.TooLong.{TooLong}
 
-abbrev pub answer_of : code.Answer → Answer ℕ (Unit {0})
-answer_of Taken = taken tt
-answer_of TooLong = refuse 1 []
+abbrev pub answer_of : TooLong → Answer ℕ (Unit {0})
+answer_of e = refuse 1 []

@@ -6,19 +6,18 @@
 -- held_of s          : the bytes of the unfinished block, R11: the first (count mod 64) of the tail
 -- absorb_of s p      : the state s with the piece p added: the whole blocks of the held bytes and p are hashed, what is left is the tail, with zeros behind it
 -- UpdateOutcome     : what adding a piece returns: the answer by number and values, and the state
--- updated u         : what the code returned, so read
+-- updated s r       : what the code returned, r, so read; an error leaves the state s that was handed in
 -- update_of s p      : the call that adds a piece; past the limit it is refused, and the state stays (refused_piece_of)
 -- DigestOutcome     : what closing returns: the answer, and the digest
--- closed c          : what the code returned, so read
+-- closed r          : what the code returned, r, so read; an error gives zeros for the digest
 -- close_of s         : the digest of all that was added to s, by adding the padding
 -- finish_of s        : the call that closes; past the limit it is refused, and zeros stand for the digest (refused_digest_of)
 -- digest_of m        : the call that takes a whole message, refused likewise
-use Rattle.std.specs.Prelude.{ℕ, ◌+◌, ◌-◌, ◌*◌, ◌/◌, ◌%◌, ◌^◌, List, [], ◌∷◌, ◌++◌, length, take, drop, replicate, ltb}
+use Rattle.std.specs.Prelude.{ℕ, ◌+◌, ◌-◌, ◌*◌, ◌/◌, ◌%◌, ◌^◌, List, [], ◌∷◌, ◌++◌, length, take, drop, replicate, ltb, Result, Ok, Err}
 use Rattle.octets.specs.Answer.{Answer, taken, refuse}
 use Rattle.octets.specs.Choice.{first_met}
 use Rattle.digest.specs.declared.State.{State}
-use Rattle.digest.specs.declared.Updated.{Updated}
-use Rattle.digest.specs.declared.Closed.{Closed}
+use Rattle.digest.specs.declared.TooLong.{TooLong}
 use Rattle.compression.specs.Constants.{initial_hash}
 use Rattle.digest.specs.Answer.{answer_of}
 use Rattle.digest.specs.Padding.{padding_of, bytes_of}
@@ -59,8 +58,9 @@ pub record UpdateOutcome : Type 0 where
   pub answer : Answer ℕ (Unit {0})
   pub state : State
 
-abbrev pub updated : Updated → UpdateOutcome
-updated u = record { answer = answer_of u.answer; state = u.state }
+abbrev pub updated : State → Result State TooLong → UpdateOutcome
+updated s (Ok t) = record { answer = taken tt; state = t }
+updated s (Err e) = record { answer = answer_of e; state = s }
 
 abbrev pub refused_piece_of : State → UpdateOutcome
 refused_piece_of s = record { answer = refuse 1 []; state = s }
@@ -77,8 +77,9 @@ pub record DigestOutcome : Type 0 where
   pub answer : Answer ℕ (Unit {0})
   pub digest : List ℕ
 
-abbrev pub closed : Closed → DigestOutcome
-closed c = record { answer = answer_of c.answer; digest = c.digest }
+abbrev pub closed : Result (List ℕ) TooLong → DigestOutcome
+closed (Ok d) = record { answer = taken tt; digest = d }
+closed (Err e) = record { answer = answer_of e; digest = replicate digest_size 0 }
 
 abbrev pub refused_digest_of : DigestOutcome
 refused_digest_of = record { answer = refuse 1 []; digest = replicate digest_size 0 }

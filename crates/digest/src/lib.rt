@@ -9,7 +9,7 @@ mod pieces;
 ghost use Rattle.std.specs.Prelude.{◌+◌, ◌≤◌, ◌≡◌, ◌++◌, length};
 ghost use Rattle.octets.specs.Answer.{number_in};
 ghost use Rattle.digest.specs.Answer.{answer_of};
-ghost use Rattle.digest.specs.Pieces.{limit, behind_of, fresh_of, absorb_of, updated, refused_piece_of, update_of, closed, refused_digest_of, close_of, finish_of, digest_of};
+ghost use Rattle.digest.specs.Pieces.{limit, behind_of, fresh_of, absorb_of, updated, update_of, closed, close_of, finish_of, digest_of};
 
 // The length of a digest, in bytes.
 pub const DIGEST_SIZE: usize = 32;
@@ -23,41 +23,21 @@ pub struct State {
     pub count: u64,
 }
 
-// How a call ends; specs/Answer.antt has number and values of each.
-#[derive(Clone, Copy)]
-pub enum Answer {
-    // The call was carried out.
-    Taken,
-    // Refused with 1: the message is, or would become, longer than the limit.
-    TooLong,
-}
+// Refused: the message is, or would become, longer than the limit. specs/Answer.antt has number and values.
+#[derive(Clone, Copy, Debug, PartialEq, Eq)]
+pub struct TooLong;
 
-// What adding a piece returns. (An enum can't hold an array, so the answer stands beside the state.)
-#[derive(Clone, Copy)]
-pub struct Updated {
-    pub answer: Answer,
-    pub state: State,
-}
+// The number of the refusal, R71.
+impl From<TooLong> for u32 {
+    ghost from_gives = { λ e n. n ≡ number_in (answer_of e) };
 
-// What closing returns; the digest is zeros where the answer is a refusal.
-#[derive(Clone, Copy)]
-pub struct Closed {
-    pub answer: Answer,
-    pub digest: [u8; DIGEST_SIZE],
+    fn from(_e: TooLong) -> u32 {
+        1
+    }
 }
 
 // The most bytes that a message may have, R12: FIPS 180-4 counts its bits in 64 bits.
-const LIMIT: u64 = 2305843009213693951;
-
-// The number of an answer, R71; 0 where it is no refusal.
-pub fn number(a: Answer) -> u32
-    ensures { result ≡ number_in (answer_of a) }
-{
-    match a {
-        Answer::Taken => 0,
-        Answer::TooLong => 1,
-    }
-}
+const LIMIT: u64 = (1 << 61) - 1;
 
 // The state before any piece.
 pub fn fresh() -> State
@@ -73,69 +53,31 @@ pub fn fresh() -> State
     }
 }
 
-// The refusal of a piece: the state is as it was.
-fn refused_piece(s: State) -> Updated
-    ensures { updated result ≡ refused_piece_of s }
-{
-    Updated {
-        answer: Answer::TooLong,
-        state: s,
-    }
-}
-
 // A piece added. Refused where the total would pass the limit.
-pub fn update(s: State, piece: &[u8]) -> Updated
-    ensures { updated result ≡ update_of s piece.now }
+pub fn update(s: State, piece: &[u8]) -> Result<State, TooLong>
+    ensures { updated s result ≡ update_of s piece.now }
 {
-    let count = s.count;
-    if LIMIT < count {
-        return refused_piece(s);
+    if LIMIT < s.count.saturating_add(piece.len() as u64) {
+        return Err(TooLong);
     }
-    if LIMIT - count < piece.len() as u64 {
-        return refused_piece(s);
-    }
-    let next = pieces::absorb(s, piece);
-    Updated {
-        answer: Answer::Taken,
-        state: next,
-    }
-}
-
-// The refusal of a digest.
-fn refused_digest() -> Closed
-    ensures { closed result ≡ refused_digest_of }
-{
-    Closed {
-        answer: Answer::TooLong,
-        digest: [0u8; DIGEST_SIZE],
-    }
+    Ok(pieces::absorb(s, piece))
 }
 
 // The digest of all the pieces. Refused where the state is past the limit.
-pub fn finish(s: State) -> Closed
+pub fn finish(s: State) -> Result<[u8; DIGEST_SIZE], TooLong>
     ensures { closed result ≡ finish_of s }
 {
     if LIMIT < s.count {
-        return refused_digest();
+        return Err(TooLong);
     }
-    let digest = pieces::close(s);
-    Closed {
-        answer: Answer::Taken,
-        digest: digest,
-    }
+    Ok(pieces::close(s))
 }
 
 // The digest of a message that is lent whole.
-pub fn sha256(message: &[u8]) -> Closed
+pub fn sha256(message: &[u8]) -> Result<[u8; DIGEST_SIZE], TooLong>
     ensures { closed result ≡ digest_of message.now }
 {
-    let all = update(fresh(), message);
-    let answer = all.answer;
-    let Answer::Taken = answer else {
-        return refused_digest();
-    };
-    let s = all.state;
-    finish(s)
+    finish(update(fresh(), message)?)
 }
 
 // The digest of two parts behind whole blocks, so many bytes of them with that hash value; all within the limit, which the callers have tested. For the
@@ -155,21 +97,12 @@ pub fn digest_behind(h: [u32; 8], before: u64, first: &[u8], second: &[u8]) -> [
 }
 
 // The digest of a message that is lent in two parts: a sector's number and its bytes, a salt and a block.
-pub fn sha256_of_two(first: &[u8], second: &[u8]) -> Closed
+pub fn sha256_of_two(first: &[u8], second: &[u8]) -> Result<[u8; DIGEST_SIZE], TooLong>
     ensures { closed result ≡ digest_of (first.now ++ second.now) }
 {
-    let before = first.len() as u64;
-    if LIMIT < before {
-        return refused_digest();
+    let length = (first.len() as u64).saturating_add(second.len() as u64);
+    if LIMIT < length {
+        return Err(TooLong);
     }
-    if LIMIT - before < second.len() as u64 {
-        return refused_digest();
-    }
-    let s = fresh();
-    let h = s.words;
-    let digest = digest_behind(h, 0, first, second);
-    Closed {
-        answer: Answer::Taken,
-        digest: digest,
-    }
+    Ok(digest_behind(fresh().words, 0, first, second))
 }

@@ -1,15 +1,16 @@
 -- The digest behind one block: from its hash value alone it goes on as from the block itself.
-use Prim.Native.Nat.{ℕ, ◌+◌, ◌≤◌}
+use Prim.Native.Nat.{ℕ}
 use mathlib.Core.Path.{◌≡◌, sym, ap, ◌∙◌}
 use mathlib.Core.List.{List, [], ◌++◌, map, append-nil}
 use native.Mathlib.Omega.{arith}
 use lib.Bits.{bit_xor}
 use lib.ListN.{length, drop, drop_of_length-le}
 use Rattle.digest.specs.declared.State.{State}
-use Rattle.digest.specs.declared.Updated.{Updated}
-use Rattle.digest.specs.Pieces.{limit, fresh_of, filled_of, absorb_of, UpdateOutcome, updated, update_of, close_of}
+use Rattle.digest.specs.declared.TooLong.{TooLong}
+use Rattle.std.specs.Prelude.{Result, Ok}
+use Rattle.digest.specs.Pieces.{fresh_of, filled_of, absorb_of, updated, update_of, close_of}
 use Rattle.digest.specs.Sha256.{sha256}
-use Rattle.digest.specs.Sha256.Promise.{update-taken, close-behind}
+use Rattle.digest.specs.Sha256.Promise.{update-given, close-behind}
 use Rattle.hmac.specs.declared.Key.{Key}
 use Rattle.hmac.specs.Hmac.{block_size, ipad, opad, block_of}
 use Rattle.hmac.specs.Kept.{hash_behind, key_of, resumed, mac_of}
@@ -27,12 +28,11 @@ close-resumed b m e = ap (λ (s : State). close_of (absorb_of s m)) (sym (resume
 
 -- ---- the calls of the digest, where the limit is kept
 
-added : (s : State) (p : List ℕ) (u : Updated) → s.count + length p ≤ limit → updated u ≡ update_of s p → u.state ≡ absorb_of s p
-added s p u h e = ap (λ (o : UpdateOutcome). o.state) (e ∙ update-taken s p h)
-
-pub hashed : (b : List ℕ) (f : State) (u : Updated) → length b ≡ block_size → f ≡ fresh_of → updated u ≡ update_of f b → u.state.words ≡ hash_behind b
-hashed b f u size ef e =
-    ap (λ (s : State). s.words) (added fresh_of b u (omega arith) (e ∙ ap (λ (s : State). update_of s b) ef))
+-- one block is within the limit
+pub added : (b : List ℕ) (f : State) (r : Result State TooLong) → length b ≡ block_size → f ≡ fresh_of → updated f r ≡ update_of f b → r ≡ Ok (absorb_of f b)
+added b f r size ef e =
+    let count : f.count ≡ 0 = ap (λ (s : State). s.count) ef in
+    update-given f b r (omega arith) e
 
 -- what is kept of a key, from its block
 pub kept : (k b p q h g : List ℕ) → b ≡ block_of k → p ≡ map (λ x. bit_xor x ipad) b → q ≡ map (λ x. bit_xor x opad) b → h ≡ hash_behind p → g ≡ hash_behind q

@@ -1,21 +1,18 @@
 -- The key as one block, and a block xored, over plain lists.
-use Prim.Native.Nat.{ℕ, ◌+◌, ◌-◌, ◌≤◌, ◌<◌}
-use mathlib.Core.Path.{◌≡◌, refl, sym, ap, ◌∙◌}
-use mathlib.Core.List.{List, [], ◌∷◌, ◌++◌, map}
-use native.Mathlib.Nat.{zero-add}
-use native.Mathlib.Numerals.{add-one}
+use Prim.Native.Nat.{ℕ, ◌+◌, ◌≤◌, ◌<◌}
+use mathlib.Core.Path.{◌≡◌, ap, ◌∙◌}
+use mathlib.Core.List.{List, ◌++◌, map}
 use native.Mathlib.Decide.{dec_le}
 use native.Mathlib.Omega.{arith}
 use lib.Bits.{bit_xor}
-use lib.ListN.{length, get_or, take, drop, set, replicate, length-append, length-replicate, length-map}
-use lib.Seq.{take-suc, take-suc-set}
+use lib.ListN.{length, get_or, take, drop, set, replicate, length-append, length-drop, length-replicate, length-map}
+use lib.Seq.{length-take-le}
+use Rattle.std.proofs.lemmas.List.{get_or_default}
+use Rattle.std.proofs.lemmas.List.Edits.{map_over_more}
 use borrow.Author.Tests.{le-ltb, lt-ltb}
-use Rattle.octets.specs.Parts.{part, patch}
-use Rattle.octets.proofs.Parts.{part-all, drop-replicate}
-use Rattle.digest.specs.declared.Closed.{Closed}
-use Rattle.digest.specs.Pieces.{limit, DigestOutcome, closed, digest_of}
+use Rattle.octets.proofs.Parts.{drop-replicate}
 use Rattle.digest.specs.Sha256.{sha256}
-use Rattle.digest.specs.Sha256.Promise.{length-sha256, digest-taken}
+use Rattle.digest.specs.Sha256.Promise.{length-sha256}
 use Rattle.hmac.specs.Hmac.{block_size, shortened, block_of, padded}
 
 -- ---- the key as one block
@@ -40,38 +37,21 @@ length-block k = rw (length-append, length-replicate) (omega (arith, length-shor
 pub length-padded : (x : ℕ) (k : List ℕ) → length (padded x k) ≡ block_size
 length-padded x k = length-map (block_of k) (λ b. bit_xor b x) ∙ length-block k
 
--- bytes copied into zeros
-copied : (x : List ℕ) → length x ≤ block_size → patch (replicate block_size 0) 0 (part x 0 (length x)) ≡ x ++ replicate (block_size - length x) 0
-copied x h =
-    let rest : drop (0 + length x) (replicate {A = ℕ} block_size 0) ≡ replicate (block_size - length x) 0 = rw zero-add (drop-replicate (length x) block_size 0 h) in
-    rw (part-all x (length x) refl, rest)
-
-pub short-key : (k r : List ℕ) → length k ≤ block_size → r ≡ patch (replicate block_size 0) 0 (part k 0 (length k)) → r ≡ block_of k
+-- a key as it is, and the digest of a longer one, copied into zeros
+pub short-key : (k : List ℕ) → length k ≤ block_size → k ++ drop (length k) (replicate block_size 0) ≡ block_of k
 unfolding block_of
-short-key k r h e = e ∙ copied k h ∙ ap (λ (s : List ℕ). s ++ replicate (block_size - length s) 0) (sym (shortened-short k h))
+short-key k h = rw (shortened-short k h, drop-replicate (length k) block_size 0 h)
 
-digest-of : (k : List ℕ) (c : Closed) → length k ≤ limit → closed c ≡ digest_of k → c.digest ≡ sha256 k
-digest-of k c h e = ap (λ (o : DigestOutcome). o.digest) (e ∙ digest-taken k h)
-
-pub length-digest : (k : List ℕ) (c : Closed) → length k ≤ limit → closed c ≡ digest_of k → length c.digest ≡ 32
-length-digest k c h e = ap length (digest-of k c h e) ∙ length-sha256 k
-
-pub long-key : (k r : List ℕ) (c : Closed) → block_size < length k → length k ≤ limit → closed c ≡ digest_of k
-    → r ≡ patch (replicate block_size 0) 0 (part c.digest 0 32) → r ≡ block_of k
+pub long-key : (k d : List ℕ) → block_size < length k → d ≡ sha256 k → d ++ drop 32 (replicate block_size 0) ≡ block_of k
 unfolding block_of
-long-key k r c past fits closes e =
-    let d : c.digest ≡ shortened k = digest-of k c fits closes ∙ sym (shortened-long k past) in
-    let size : length (shortened k) ≡ 32 = ap length (shortened-long k past) ∙ length-sha256 k in
-    e ∙ ap (λ (x : List ℕ). patch (replicate block_size 0) 0 (part x 0 32)) d
-    ∙ ap (λ (n : ℕ). patch (replicate block_size 0) 0 (part (shortened k) 0 n)) (sym size) ∙ copied (shortened k) (omega arith)
+long-key k d past e =
+    let size : length (sha256 k) ≡ 32 = length-sha256 k in
+    rw (e, shortened-long k past, size)
 
 -- ---- a block xored
 
-map-append : (f : ℕ → ℕ) (a b : List ℕ) → map f (a ++ b) ≡ map f a ++ map f b
-map-append f [] b = refl
-map-append f (x ∷ a) b = rw (map-append f a b)
-
--- one turn: the first i bytes are done
-pub xor-turn : (f : ℕ → ℕ) (b out : List ℕ) (i : ℕ) → i < length b → i < length out → take i out ≡ map f (take i b)
-    → take (i + 1) (set out i (f (get_or b i 0))) ≡ map f (take (i + 1) b)
-xor-turn f b out i l m e = rw (add-one, take-suc-set out i (f (get_or b i 0)) m, take-suc b i 0 l, map-append, e)
+-- a turn of the loop over its bytes
+pub xor-turn : (f : ℕ → ℕ) (b l : List ℕ) (i : ℕ) → i < length b → l ≡ map f (take i b) ++ drop i b → set l i (f (get_or l i 0)) ≡ map f (take (i + 1) b) ++ drop (i + 1) b
+xor-turn f b l i h e =
+    let size : length l ≡ length b = ap length e ∙ simp (length-append, length-map, length-drop) (omega (arith, length-take-le i b (omega arith))) in
+    map_over_more f b l i (get_or l i 0) h e (get_or_default l i 0 (get_or l i 0) (omega arith))

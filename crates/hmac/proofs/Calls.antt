@@ -5,13 +5,12 @@ use mathlib.Core.Path.{◌≡◌, ap, ◌∙◌}
 use mathlib.Core.List.{List, [], ◌++◌, append-nil}
 use native.Mathlib.Omega.{arith}
 use lib.Dec.{leb}
-use lib.ListN.{length, replicate}
+use lib.ListN.{length}
 use borrow.Author.Tests.{leb-true, le-ltb, lt-ltb}
+use Rattle.std.specs.Prelude.{Ok, Err}
 use Rattle.digest.specs.Pieces.{limit}
-use Rattle.digest.specs.Sha256.{digest_size}
-use Rattle.hmac.specs.declared.Answer.TheVariants.{Taken, KeyLength, TooLong}
+use Rattle.hmac.specs.declared.Refusal.TheVariants.{KeyLength, TooLong}
 use Rattle.hmac.specs.declared.Key.{Key}
-use Rattle.hmac.specs.declared.Mac.{Mac}
 use Rattle.hmac.specs.Hmac.{most_key, key_ok}
 use Rattle.hmac.specs.Kept.{key_of, mac_of}
 use Rattle.hmac.specs.Call.{message_limit, called, mac_call_of}
@@ -26,15 +25,15 @@ pub key_fits : (k : List ℕ) → key_ok k ≡ true → length k ≤ limit
 key_fits k e = omega (arith, leb-true (length k) most_key (and_right (leb 1 (length k)) (leb (length k) most_key) e))
 
 module _ (k m : List ℕ) where
-  pub key-refused : (r : Mac) → key_ok k ≡ false → r ≡ record { answer = KeyLength; mac = replicate digest_size 0 } → called r ≡ mac_call_of k m
+  pub key-refused : key_ok k ≡ false → called (Err KeyLength) ≡ mac_call_of k m
   unfolding mac_call_of
-  key-refused r e er = rw (er, e)
+  key-refused e = rw e
 
-  pub message-refused : (r : Mac) → key_ok k ≡ true → message_limit < length m → r ≡ record { answer = TooLong; mac = replicate digest_size 0 } → called r ≡ mac_call_of k m
+  pub message-refused : key_ok k ≡ true → message_limit < length m → called (Err TooLong) ≡ mac_call_of k m
   unfolding mac_call_of
-  message-refused r e past er = rw (er, e, lt-ltb message_limit (length m) past)
+  message-refused e past = rw (e, lt-ltb message_limit (length m) past)
 
-  pub given : (x : Key) (d : List ℕ) → key_ok k ≡ true → length m ≤ message_limit → x ≡ key_of k → d ≡ mac_of x (m ++ []) → called (record { answer = Taken; mac = d }) ≡ mac_call_of k m
+  pub given : (x : Key) (d : List ℕ) → key_ok k ≡ true → length m ≤ message_limit → x ≡ key_of k → d ≡ mac_of x (m ++ []) → called (Ok d) ≡ mac_call_of k m
   unfolding mac_call_of
   given x d e fits ex ed =
       let mac = ed ∙ ap (λ (y : Key). mac_of y (m ++ [])) ex ∙ ap (mac_of (key_of k)) (append-nil m) ∙ kept-gives-hmac k m in

@@ -4,10 +4,11 @@ use Prim.Native.Nat.{ℕ}
 use mathlib.Core.List.{List, []}
 use mathlib.Core.Path.{◌≡◌}
 use lib.ListN.{length, replicate}
+use Rattle.std.specs.Prelude.{Result, Err}
 use Rattle.octets.specs.Answer.{refuse}
-use Rattle.hmac.specs.declared.Answer as code
-use Rattle.hmac.specs.declared.Answer.TheVariants.{KeyLength, TooLong}
-use Rattle.hmac.specs.Answer.{answer_of}
+use Rattle.hmac.specs.declared.Refusal as code
+use Rattle.hmac.specs.declared.Refusal.TheVariants.{KeyLength, TooLong}
+use Rattle.hmac.specs.Call.{called}
 use Rattle.hmac.specs.Hmac.{block_of, hmac}
 use Rattle.hmac.specs.Kept.{key_of, mac_of}
 use Rattle.hmac.proofs.Theorems.{answers-differ, block-length, mac-length, kept-gives-hmac, kept-length}
@@ -38,8 +39,8 @@ kept-sized : (k m : List ℕ) → length (mac_of (key_of k) m) ≡ 32
 kept-sized = kept-length
 
 -- the two refusals are told apart
-refusals-differ : (a : code.Answer) → answer_of a ≡ refuse 2 [] → a ≡ KeyLength
-refusals-differ a e = answers-differ a KeyLength e
+refusals-differ : (r : Result (List ℕ) code.Refusal) → called r ≡ record { answer = refuse 2 []; mac = replicate 32 0 } → r ≡ Err KeyLength
+refusals-differ r e = answers-differ r (Err KeyLength) e
 
-limit-differs : (a : code.Answer) → answer_of a ≡ refuse 1 [] → a ≡ TooLong
-limit-differs a e = answers-differ a TooLong e
+limit-differs : (r : Result (List ℕ) code.Refusal) → called r ≡ record { answer = refuse 1 []; mac = replicate 32 0 } → r ≡ Err TooLong
+limit-differs r e = answers-differ r (Err TooLong) e

@@ -4,13 +4,14 @@ use mathlib.Core.List.{List, ◌++◌}
 use mathlib.Core.Path.{◌≡◌, refl, sym, ap, ◌∙◌}
 use lib.Dec.{eqb}
 use lib.ListN.{length}
-use Rattle.octets.specs.Answer.{Answer, number_in}
+use Rattle.std.specs.Prelude.{Result, Ok, Err}
+use Rattle.octets.specs.Answer.{number_in}
 use Rattle.octets.specs.Choice.{pick}
 use Rattle.digest.specs.Sha256.{digest_size, sha256}
 use Rattle.digest.specs.Sha256.Promise.{length-sha256}
-use Rattle.hmac.specs.declared.Answer as code
-use Rattle.hmac.specs.declared.Answer.TheVariants.{Taken, KeyLength, TooLong}
-use Rattle.hmac.specs.Answer.{answer_of}
+use Rattle.hmac.specs.declared.Refusal as code
+use Rattle.hmac.specs.declared.Refusal.TheVariants.{KeyLength, TooLong}
+use Rattle.hmac.specs.Call.{MacOutcome, called}
 use Rattle.hmac.specs.Hmac.{ipad, opad, padded, hmac}
 use Rattle.hmac.specs.Kept.{key_of, mac_of}
 use Rattle.hmac.specs.Theorems.{AnswersDiffer, KeptGivesHmac, BlockLength, MacLength}
@@ -19,18 +20,18 @@ use Rattle.hmac.proofs.Behind.{close-resumed}
 
 -- ---- answers
 
--- the code's answer, told by its number
-told : Answer ℕ (Unit {0}) → code.Answer
-told a = pick (eqb (number_in a) 0) Taken (pick (eqb (number_in a) 1) TooLong KeyLength)
+-- what the code returned, told by the outcome
+told : MacOutcome → Result (List ℕ) code.Refusal
+told o = pick (eqb (number_in o.answer) 0) (Ok o.mac) (pick (eqb (number_in o.answer) 1) (Err TooLong) (Err KeyLength))
 
-told_back : (a : code.Answer) → told (answer_of a) ≡ a
+told_back : (r : Result (List ℕ) code.Refusal) → told (called r) ≡ r
 unfolding told
-told_back Taken = refl
-told_back KeyLength = refl
-told_back TooLong = refl
+told_back (Ok m) = refl
+told_back (Err KeyLength) = refl
+told_back (Err TooLong) = refl
 
 pub answers-differ : AnswersDiffer
-answers-differ a b e = sym (told_back a) ∙ ap told e ∙ told_back b
+answers-differ r q e = sym (told_back r) ∙ ap told e ∙ told_back q
 
 -- ---- lengths
 

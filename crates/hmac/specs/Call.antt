@@ -2,15 +2,15 @@
 --
 -- message_limit    : the most bytes that a message may have: with the padded block before it, it is within the digest's limit (R12)
 -- MacOutcome      : what the call returns: the answer by number and values, and the 32 bytes, zeros where it is refused
--- called m        : what the code returned, so read
+-- called r        : what the code returned, r, so read; an error gives zeros for the mac
 -- mac_rows k m     : the rules of the call, in order
 -- mac_call_of k m   : the call
-use Rattle.std.specs.Prelude.{ℕ, ◌-◌, Bool, not, List, [], ◌∷◌, ltb, length, replicate}
+use Rattle.std.specs.Prelude.{ℕ, ◌-◌, Bool, not, List, [], ◌∷◌, ltb, length, replicate, Result, Ok, Err}
 use Rattle.octets.specs.Answer.{Answer, taken, refused, refuse}
 use Rattle.octets.specs.Choice.{first_met}
 use Rattle.digest.specs.Pieces.{limit}
 use Rattle.digest.specs.Sha256.{digest_size}
-use Rattle.hmac.specs.declared.Mac.{Mac}
+use Rattle.hmac.specs.declared.Refusal as code
 use Rattle.hmac.specs.Answer.{answer_of}
 use Rattle.hmac.specs.Hmac.{block_size, hmac, key_ok}
 
@@ -21,8 +21,9 @@ pub record MacOutcome : Type 0 where
   pub answer : Answer ℕ (Unit {0})
   pub mac : List ℕ
 
-abbrev pub called : Mac → MacOutcome
-called m = record { answer = answer_of m.answer; mac = m.mac }
+abbrev pub called : Result (List ℕ) code.Refusal → MacOutcome
+called (Ok m) = record { answer = taken tt; mac = m }
+called (Err e) = record { answer = answer_of e; mac = replicate digest_size 0 }
 
 abbrev pub mac_rows : List ℕ → List ℕ → List (Bool × Answer ℕ (Unit {0}))
 mac_rows k m =

@@ -1,14 +1,14 @@
 -- What is proved beyond each call's own contract; the proofs are in proofs/Theorems.
-use Rattle.std.specs.Prelude.{ℕ, List, ◌≡◌, length}
+use Rattle.std.specs.Prelude.{ℕ, List, ◌≡◌, length, Result}
 use Rattle.digest.specs.Sha256.{digest_size}
-use Rattle.hmac.specs.declared.Answer as code
-use Rattle.hmac.specs.Answer.{answer_of}
+use Rattle.hmac.specs.declared.Refusal as code
+use Rattle.hmac.specs.Call.{called}
 use Rattle.hmac.specs.Hmac.{block_size, block_of, hmac}
 use Rattle.hmac.specs.Kept.{key_of, mac_of}
 
--- Number and values tell the answers apart: a contract that states them states the answer (R100).
+-- Number and values tell the answers apart: a contract that states them states what the code returned, error or value (R100).
 abbrev pub AnswersDiffer : Type 0
-AnswersDiffer = (a b : code.Answer) → answer_of a ≡ answer_of b → a ≡ b
+AnswersDiffer = (r q : Result (List ℕ) code.Refusal) → called r ≡ called q → r ≡ q
 
 -- R104: what is kept of a key, of any length, gives RFC 2104's value
 abbrev pub KeptGivesHmac : Type 0

@@ -11,10 +11,11 @@ use Rattle.octets.specs.Numbers.{le}
 use Rattle.octets.specs.Parts.{patch}
 use Rattle.octets.proofs.Numbers.{length-le}
 use Rattle.octets.proofs.Parts.{patch-all}
-use Rattle.digest.specs.declared.Closed.{Closed}
-use Rattle.digest.specs.Pieces.{limit, DigestOutcome, closed, digest_of}
+use Rattle.std.specs.Prelude.{Result, Ok}
+use Rattle.digest.specs.declared.TooLong.{TooLong}
+use Rattle.digest.specs.Pieces.{limit, closed, digest_of}
 use Rattle.digest.specs.Sha256.{sha256}
-use Rattle.digest.specs.Sha256.Promise.{length-sha256, digest-taken}
+use Rattle.digest.specs.Sha256.Promise.{length-sha256, digest-given}
 use Rattle.hmac.specs.Hmac.{key_ok}
 use Rattle.hmac.specs.Kept.{mac_of}
 use Rattle.on_disk.proofs.Addresses.{and_both}
@@ -34,10 +35,13 @@ keyed q s b n r k en er =
     er ∙ ap (λ (m : List ℕ). mac_of q.key (m ++ b)) (number_is s n en) ∙ rw k
 
 -- by R14: the digest of a sector's number and its bytes is within the limit
-pub plain : (q : Rule) (s : ℕ) (b n : List ℕ) (c : Closed) → q.keyed ≡ false → length b ≡ 512 → n ≡ patch (replicate 8 0) 0 (le 8 s)
-    → closed c ≡ digest_of (n ++ b) → (c.digest ≡ digest_by q (le 8 s ++ b)) × (length c.digest ≡ 32)
-plain q s b n c k whole en ec =
-    let size : length (le 8 s ++ b) ≡ 520 = rw (length-append, length-le 8 s, whole) in
-    let taken : c.digest ≡ sha256 (le 8 s ++ b) =
-    ap (λ (o : DigestOutcome). o.digest) (ec ∙ ap (λ (m : List ℕ). digest_of (m ++ b)) (number_is s n en) ∙ digest-taken (le 8 s ++ b) (omega arith)) in
-    (taken ∙ rw k, ap length taken ∙ length-sha256 (le 8 s ++ b))
+module _ (s : ℕ) (b n : List ℕ) (r : Result (List ℕ) TooLong) (whole : length b ≡ 512) (en : n ≡ patch (replicate 8 0) 0 (le 8 s)) (er : closed r ≡ digest_of (n ++ b)) where
+  pub digested : r ≡ Ok (sha256 (le 8 s ++ b))
+  digested =
+      let size : length (le 8 s ++ b) ≡ 520 = rw (length-append, length-le 8 s, whole) in
+      digest-given (le 8 s ++ b) r (omega arith) (er ∙ ap (λ (m : List ℕ). digest_of (m ++ b)) (number_is s n en))
+
+  pub plain : (q : Rule) (d : List ℕ) → q.keyed ≡ false → r ≡ Ok d → (d ≡ digest_by q (le 8 s ++ b)) × (length d ≡ 32)
+  plain q d k ed =
+      let taken : d ≡ sha256 (le 8 s ++ b) = cc (ed, digested) in
+      (taken ∙ rw k, ap length taken ∙ length-sha256 (le 8 s ++ b))

@@ -51,6 +51,5 @@ pub fn tag(rule: Rule, s: usize, bytes: &[u8]) -> [u8; 32]
         let key = rule.key;
         return hmac::mac_of_two(key, &number, bytes);
     }
-    let closed = digest::sha256_of_two(&number, bytes);
-    closed.digest
+    digest::sha256_of_two(&number, bytes).unwrap()
 }

@@ -18,6 +18,5 @@ pub fn block_digest(salt: &[u8], block: &[u8]) -> [u8; digest::DIGEST_SIZE]
     requires { (length salt.now ≤ longest_salt) × (length block.now ≤ block_size) }
     ensures { (result ≡ block_digest salt.now block.now) × (length result ≡ digest_size) }
 {
-    let closed = digest::sha256_of_two(salt, block);
-    closed.digest
+    digest::sha256_of_two(salt, block).unwrap()
 }

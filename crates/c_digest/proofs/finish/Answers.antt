@@ -7,8 +7,8 @@ returns-then-state-digest_state_size c = finish-wrong-state c.args.state.now c.a
 pub returns-then-digest-digest_size : goal.returns-then-digest-digest_size
 returns-then-digest-digest_size c = finish-wrong-digest c.args.state.now c.args.digest.now c.digest_state_size.ensures c.if-state-digest_state_size.false c.digest_size.ensures c.wrong_length-then-digest-digest_size.ensures c.if-digest-digest_size.true
 
-pub returns-then-number-done : goal.returns-then-number-done
-returns-then-number-done c = finish-refused c.args.state.now c.args.digest.now c.digest_state_size.ensures c.if-state-digest_state_size.false c.digest_size.ensures c.if-digest-digest_size.false c.decode.ensures c.finish-closed.result c.finish-closed.ensures c.number-number.ensures c.done.ensures c.if-number-done.true
+pub returns-in-Err : goal.returns-in-Err
+returns-in-Err c = finish-refused c.args.state.now c.args.digest.now c.digest_state_size.ensures c.if-state-digest_state_size.false c.digest_size.ensures c.if-digest-digest_size.false c.decode.ensures c.in-Err.e c.in-Err.ensures c.from.ensures
 
-pub returns : goal.returns
-returns c = finish-done c.args.state.now c.args.digest.now c.digest_state_size.ensures c.if-state-digest_state_size.false c.digest_size.ensures c.if-digest-digest_size.false c.decode.ensures c.finish-closed.result c.finish-closed.ensures c.number-number.ensures c.done.ensures c.if-number-done.false c.put_digest.ensures
+pub returns-in-Ok : goal.returns-in-Ok
+returns-in-Ok c = finish-done c.args.state.now c.args.digest.now c.digest_state_size.ensures c.if-state-digest_state_size.false c.digest_size.ensures c.if-digest-digest_size.false c.decode.ensures c.in-Ok.ensures c.done.ensures c.put_digest.ensures

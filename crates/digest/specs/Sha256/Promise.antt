@@ -1,15 +1,16 @@
 -- The digest's promise, R8: all that crates above may use of `sha256`. It has `digest_size` bytes; two pieces are as the one that they make; closing after any pieces
 -- gives the digest of their concatenation, from a state that was kept behind some of them too.
-use Rattle.std.specs.Prelude.{ℕ, ◌+◌, ◌/◌, ◌≤◌, ◌<◌, ◌≡◌, refl, length}
+use Rattle.std.specs.Prelude.{ℕ, ◌+◌, ◌/◌, ◌≤◌, ◌<◌, ◌≡◌, refl, length, Result, Ok, Err}
 use Rattle.std.proofs.Common.{zero-add, arith, ap, ◌∙◌, length-append, le-ltb, lt-ltb}
 use mathlib.Core.List.{List, [], ◌∷◌, ◌++◌, append_assoc, append-nil, flatten}
-use Rattle.octets.specs.Answer.{taken}
+use Rattle.octets.specs.Answer.{taken, number_in}
 use Rattle.octets.specs.Numbers.{Bytes}
 use Rattle.digest.specs.declared.State.{State}
+use Rattle.digest.specs.declared.TooLong.{TooLong}
 use Rattle.compression.specs.Constants.{initial_hash}
 use Rattle.compression.specs.Compression.{hash_of}
 use Rattle.digest.specs.Padding.{padding_of, bytes_of}
-use Rattle.digest.specs.Pieces.{limit, fresh_of, absorb_of, refused_piece_of, update_of, close_of, finish_of, digest_of}
+use Rattle.digest.specs.Pieces.{limit, fresh_of, absorb_of, UpdateOutcome, updated, refused_piece_of, update_of, DigestOutcome, closed, close_of, finish_of, digest_of}
 use Rattle.digest.specs.Sha256.{digest_size, sha256, padded_of}
 use Rattle.digest.specs.Sha256.Laws.{length-hash, length-bytes_of, bytes-bytes_of, absorb-append, words-absorb, fresh-holds-nothing}
 
@@ -36,6 +37,11 @@ update-taken s p fits = rw (le-ltb limit (s.count + length p) fits)
 pub update-refused : (s : State) (p : List ℕ) → limit < s.count + length p → update_of s p ≡ refused_piece_of s
 unfolding update_of
 update-refused s p past = rw (lt-ltb limit (s.count + length p) past)
+
+-- what the code returns where it is taken
+pub update-given : (s : State) (p : List ℕ) (r : Result State TooLong) → s.count + length p ≤ limit → updated s r ≡ update_of s p → r ≡ Ok (absorb_of s p)
+update-given s p (Ok t) fits e = ap (λ (o : UpdateOutcome). Ok o.state) (e ∙ update-taken s p fits)
+update-given s p (Err x) fits e = absurd (let z : ◌≡◌ {A = ℕ} 1 0 = ap (λ (o : UpdateOutcome). number_in o.answer) (e ∙ update-taken s p fits) in omega arith)
 
 -- the count of what was added
 pub count-absorb : (s : State) (p : List ℕ) → (absorb_of s p).count ≡ s.count + length p
@@ -95,3 +101,8 @@ closing ps fits =
 pub digest-taken : (m : List ℕ) → length m ≤ limit → digest_of m ≡ record { answer = taken tt; digest = sha256 m }
 unfolding digest_of
 digest-taken m fits = rw (le-ltb limit (length m) fits)
+
+-- and what the code returns for it
+pub digest-given : (m : List ℕ) (r : Result (List ℕ) TooLong) → length m ≤ limit → closed r ≡ digest_of m → r ≡ Ok (sha256 m)
+digest-given m (Ok d) fits e = ap (λ (o : DigestOutcome). Ok o.digest) (e ∙ digest-taken m fits)
+digest-given m (Err x) fits e = absurd (let z : ◌≡◌ {A = ℕ} 1 0 = ap (λ (o : DigestOutcome). number_in o.answer) (e ∙ digest-taken m fits) in omega arith)

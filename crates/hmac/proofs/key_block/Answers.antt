@@ -1,16 +1,18 @@
-use mathlib.Core.Path.{◌≡◌}
+use mathlib.Core.Path.{◌≡◌, ◌∙◌}
 use native.Mathlib.Omega.{arith}
-use lib.ListN.{length}
-use Rattle.hmac.proofs.Blocks.{length-digest, short-key, long-key}
+use Rattle.digest.specs.Sha256.{sha256}
+use Rattle.digest.specs.Sha256.Promise.{digest-given}
+use Rattle.hmac.proofs.Blocks.{short-key, long-key}
 use Rattle.hmac.proofs.key_block.Goals as goal
 
-pub copy_at-requires : goal.copy_at-requires
-copy_at-requires c =
-    let size : length c.sha256-closed.result.digest ≡ 32 = length-digest c.args.key.now c.sha256-closed.result c.requires c.sha256-closed.ensures in
-    (omega arith, rw size (omega arith))
+pub unwrap-digest-requires : goal.unwrap-digest-requires
+unwrap-digest-requires c = rw (digest-given c.args.key.now c.sha256.result c.requires c.sha256.ensures)
 
 pub returns-then-key-gt-BLOCK_SIZE : goal.returns-then-key-gt-BLOCK_SIZE
-returns-then-key-gt-BLOCK_SIZE c = long-key c.args.key.now c.copy_at.new.d c.sha256-closed.result (omega arith) c.requires c.sha256-closed.ensures c.copy_at.ensures
+returns-then-key-gt-BLOCK_SIZE c =
+    let e = digest-given c.args.key.now c.sha256.result c.requires c.sha256.ensures in
+    let same : c.unwrap-digest.result ≡ sha256 c.args.key.now = cc (c.unwrap-digest.ensures, e) in
+    long-key c.args.key.now _ (omega arith) (c.copy_from_slice.ensures.after ∙ same)
 
-pub returns : goal.returns
-returns c = short-key c.args.key.now c.copy_at-2.new.d (omega arith) c.copy_at-2.ensures
+pub returns-else-key-gt-BLOCK_SIZE : goal.returns-else-key-gt-BLOCK_SIZE
+returns-else-key-gt-BLOCK_SIZE c = rw c.copy_from_slice-else-key-gt-BLOCK_SIZE.ensures.after (short-key c.args.key.now (omega arith))

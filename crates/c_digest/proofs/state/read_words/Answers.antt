@@ -9,18 +9,17 @@ use Rattle.c_digest.proofs.state.read_words.Goals as goal
 
 pub loop-i-init : goal.loop-i-init
 unfolding numbers_in
-loop-i-init c = (search rules, refl, refl)
+loop-i-init c = (refl, refl)
 
 pub loop-i-preserved : goal.loop-i-preserved
 loop-i-preserved c =
     let turn = c.loop-i in (
-      omega arith,
       simp length-set (search rules),
-      read-turn c.args.buffer.now turn.words turn.i c.number.result (omega arith) turn.invariant.2 c.number.ensures.0,
+      read-turn c.args.buffer.now turn.word-items turn.i c.number.result (omega arith) turn.invariant.1 c.number.ensures.0,
     )
 
 pub returns : goal.returns
 returns c =
     let turn = c.loop-i in
     let e : turn.i ≡ 8 = omega arith in
-    sym (take_all 8 turn.words (omega arith)) ∙ (rw e at turn.invariant.2)
+    sym (take_all 8 turn.word-items (omega arith)) ∙ (rw e at turn.invariant.1)

@@ -7,4 +7,4 @@ use Rattle.digest.proofs.pieces.filled.Goals as goal
 pub returns : goal.returns
 returns c =
     let size : length c.args.t ≡ 64 = omega arith in
-    (fills c.args.n c.args.t c.args.p.now c.copy_at.new.d c.copy_at-2.new.d size c.requires c.copy_at.ensures c.copy_at-2.ensures, size)
+    (fills c.args.n c.args.t c.args.p.now _ _ size c.requires c.copy_from_slice.ensures.after c.copy_from_slice-2.ensures.after, size)
