@@ -7,7 +7,7 @@ use mathlib.Core.Path.{◌≡◌, refl, sym, ap, ◌∙◌}
 use native.Mathlib.Decide.{dec_lt}
 use native.Mathlib.Omega.{arith}
 use lib.ListN.{get_or}
-use borrow.Author.Tests.{eq-eqb, ne_eqb}
+use borrow.Author.Tests.{ne_eqb}
 use Rattle.octets.specs.Choice.{pick}
 use Rattle.octets.specs.Sectors.{sector_at}
 use Rattle.on_disk.specs.Layout.{section_size, layout_ok}
@@ -79,18 +79,10 @@ module _ (f : ℕ → Bool) where
         go true q h = q
         go false q h = absurd (omega (arith, first-high n))
 
--- ---- a section in its place
+-- ---- a section out of its place
 
-module _ (g : Layout) (k id : ℕ) where
-  pub not-misplaced : id ≡ 0 → misplaced_id g id k ≡ false
-  not-misplaced z = rw (eq-eqb id 0 z)
-
-  module _ (r : ℕ) (at : r ≡ section_for g id) (nz : id ≢ 0) where
-    pub in_place : r ≡ k → misplaced_id g id k ≡ false
-    in_place e = rw (ne_eqb id 0 nz, eq-eqb (section_for g id) k (sym at ∙ e))
-
-    pub is-misplaced : r ≢ k → misplaced_id g id k ≡ true
-    is-misplaced n = rw (ne_eqb id 0 nz, ne_eqb (section_for g id) k (λ z. n (at ∙ z)))
+pub is-misplaced : (g : Layout) (k id r : ℕ) → r ≡ section_for g id → id ≢ 0 → r ≢ k → misplaced_id g id k ≡ true
+is-misplaced g k id r at nz n = rw (ne_eqb id 0 nz, ne_eqb (section_for g id) k (λ z. n (at ∙ z)))
 
 -- ---- a search that looks at the same values
 

@@ -1,31 +1,26 @@
 -- The fields of a superblock: it is valid where the bytes that hold no number are the fixed ones.
-use Prim.Native.Nat.{ℕ, ◌+◌, ◌%◌, ◌≤◌, ◌<◌}
+use Prim.Native.Nat.{ℕ, ◌+◌, ◌%◌, ◌≤◌}
 use mathlib.Core.Bool.{Bool, true, false, ◌&&◌}
 use mathlib.Core.List.{List, [], ◌∷◌, ◌++◌}
-use mathlib.Core.Logic.{◌≢◌}
 use mathlib.Core.Path.{◌≡◌, refl, sym, ap, ◌∙◌}
 use native.Mathlib.Omega.{arith}
 use lib.Dec.{eqb}
-use lib.ListN.{length, drop, get_or, replicate, length-append, length-drop, length-replicate, get_or-replicate, take-append-drop}
-use lib.Seq.{drop-cons, drop-drop, ext_get_or}
+use Rattle.std.specs.List.{list_all}
+use Rattle.std.proofs.lemmas.List.Recursion.{same_from_clauses}
+use lib.ListN.{length, drop, get_or, replicate, length-append, length-drop, length-replicate, take-append-drop}
+use lib.Seq.{drop-cons, drop-drop}
 use Rattle.octets.specs.Numbers.{Bytes, le, value}
 use Rattle.octets.specs.Parts.{part, patch, same}
 use Rattle.octets.proofs.Numbers.{le-value}
-use Rattle.octets.proofs.Parts.{length_part, patch-join, patch-all, eq-same, ne_same, bytes-part}
+use Rattle.octets.proofs.Parts.{length_part, patch-join, patch-all, eq-same, bytes-part}
 use Rattle.on_disk.specs.Layout.{layout_ok}
 use Rattle.on_disk.specs.Superblock.{magic, superblock_of, layout_in, is_zero, superblock_ok}
 use Rattle.on_disk.specs.declared.Layout.{Layout}
 
 -- ---- bytes that are all zero
 
-pub zero-all : (b : List ℕ) → ((i : ℕ) → i < length b → get_or b i 0 ≡ 0) → true ≡ is_zero b
-zero-all b h =
-    sym (eq-same b (replicate (length b) 0)
-    (ext_get_or 0 b (replicate (length b) 0) (sym (length-replicate (length b) 0)) (λ i l. h i l ∙ sym (get_or-replicate (length b) i 0 0 l))))
-
-pub zero-not : (b : List ℕ) (i : ℕ) → i < length b → get_or b i 0 ≢ 0 → false ≡ is_zero b
-zero-not b i l n =
-    sym (ne_same b (replicate (length b) 0) (λ e. n (ap (λ (z : List ℕ). get_or z i 0) e ∙ get_or-replicate (length b) i 0 0 l)))
+pub zeros : (b : List ℕ) → list_all (λ x. eqb x 0) b ≡ is_zero b
+zeros = same_from_clauses (list_all (λ x. eqb x 0)) is_zero (λ x t. eqb x 0 && t) refl (λ x b. refl) (λ x b. refl)
 
 -- ---- a superblock, field by field
 
@@ -92,16 +87,14 @@ module _ (r : ℕ) (b : List ℕ) (bytes : Bytes b) (size : length b ≡ 4096) w
       ∙ ap (λ (x : List ℕ). from (part b 10 2) x (le 8 (value (part b 16 8)))) (number-again 12 4 (omega arith))
       ∙ ap (from (part b 10 2) (part b 12 4)) (number-again 16 8 (omega arith))
 
-  pub valid : (known zeros in-range : Bool) → known ≡ same (part b 0 8) magic → zeros ≡ is_zero (drop 24 b) → in-range ≡ layout_ok (layout_in r b)
-      → known && eqb (get_or b 8 0) 128 && zeros && in-range ≡ superblock_ok r b
-  valid known zeros in-range k z i =
+  pub valid : same (part b 0 8) magic && eqb (get_or b 8 0) 128 && is_zero (drop 24 b) && layout_ok (layout_in r b) ≡ superblock_ok r b
+  valid =
       let rest : length (drop 24 b) ≡ 4072 = length-drop 24 b ∙ omega arith in
       let whole : same b (superblock_of (layout_in r b)) ≡ same (part b 0 8) magic && eqb (get_or b 8 0) 128 && same (drop 24 b) (replicate 4072 0) =
       ap (λ (x : List ℕ). same x (superblock_of (layout_in r b))) (in-fields b (omega arith))
       ∙ ap (same (fields (part b 0 8) (get_or b 8 0) (get_or b 9 0) (part b 10 2) (part b 12 4) (part b 16 8) (drop 24 b))) written
       ∙ same-fields (part b 0 8) magic (get_or b 8 0) 128 (get_or b 9 0) (part b 10 2) (part b 12 4) (part b 16 8) (drop 24 b) (replicate 4072 0) (length_part b 0 8 (omega arith)) in
-      let zeros' : zeros ≡ same (drop 24 b) (replicate 4072 0) = z ∙ ap (λ (n : ℕ). same (drop 24 b) (replicate n 0)) rest in
-      rw (k, zeros', i, ← whole)
+      rw (rest, ← whole)
 
 -- ---- a superblock is written, field behind field
 

@@ -6,7 +6,7 @@ use native.Mathlib.Nat.{mul-le-mul, mul-le-mul_left, div-add-mod', mod-lt, pow-l
 use native.Mathlib.Omega.{arith}
 use lib.Pow.{pow_pos}
 use borrow.Author.Tests.{lt-ltb, le-ltb}
-use Rattle.on_disk.specs.Layout.{most_provided, entry_size, per_sector, section_size, run_length, tag_area, section_at, tag_offset, needed, layout_ok}
+use Rattle.on_disk.specs.Layout.{most_provided, entry_size, per_sector, section_size, run_length, section_at, tag_offset, needed, layout_ok}
 use Rattle.on_disk.specs.Section.{Entry}
 use Rattle.model.specs.Store.{home_count}
 use Rattle.model.proofs.Plans.{home-in-one, home-in-two}
@@ -73,20 +73,11 @@ module _ (g : Layout) (ok : layout_ok g ≡ true) where
         (ap (λ (x : ℕ). x * g.width) is-length, mul-le-mul length width-high)
 
     module _ (s : ℕ) where
-      pub within : (s % n ≡ s % run_length g) × (s % n ≤ 2 ^ 15)
+      within : (s % n ≡ s % run_length g) × (s % n ≤ 2 ^ 15)
       within = rw is-length (refl, omega (arith, run-high, mod-lt s run-low))
 
       pub place-product : (s % n * g.width ≡ s % run_length g * g.width) × (s % n * g.width ≤ 2 ^ 15 * 32)
       place-product = (ap (λ (x : ℕ). s % x * g.width) is-length, mul-le-mul within.1 width-high)
-
-      pub runs-product : (a : ℕ) → a ≡ tag_area g → a ≤ 2 ^ 11 → s < most_provided
-          → (s / n * (a + n) ≡ s / run_length g * (tag_area g + run_length g)) × (s / n * (a + n) ≤ 65535 * 34816)
-      runs-product a is-area small l =
-          let whole = div-add-mod' s n in
-          let least : s / n * 1 ≤ s / n * n = mul-le-mul_left (s / n) (omega (arith, run-low)) in
-          let number : s / n ≤ 65535 = omega arith in
-          let size : a + n ≤ 34816 = omega (arith, run-high) in
-          (rw (is-length, is-area), mul-le-mul number size)
 
   -- ---- the stores of an entry, by where its tag ends
 

@@ -58,26 +58,27 @@ pub const MOST_HOME_STORES: usize = 3;
 pub fn volume_loan_ok(v: &[u8]) -> bool
     ensures { result ≡ volume_loan_ok v.now }
 {
-    (v.len() % SECTOR_SIZE == 0) & (v.len() <= MOST_SECTORS * SECTOR_SIZE)
+    v.len() % SECTOR_SIZE == 0 && v.len() <= MOST_SECTORS * SECTOR_SIZE
 }
 
 // Whether T is from 1 to 32.
+#[tactic(auto, unfolding(on_disk::specs::Layout::width_ok))]
 pub fn width_ok(t: usize) -> bool
     ensures { result ≡ width_ok t }
 {
-    (1 <= t) & (t <= MOST_WIDTH)
+    (1..=MOST_WIDTH).contains(&t)
 }
 
 // Whether every parameter is in range.
+#[tactic(auto, unfolding(on_disk::specs::Layout::layout_ok))]
 pub fn layout_ok(g: Layout) -> bool
     ensures { result ≡ layout_ok g }
 {
-    let width = width_ok(g.width);
-    (g.reserved <= MOST_RESERVED)
-        & ((LEAST_SHIFT <= g.shift) & (g.shift <= MOST_SHIFT))
-        & width
-        & ((1 <= g.sections) & (g.sections <= MOST_SECTIONS))
-        & ((1 <= g.provided) & (g.provided <= MOST_PROVIDED))
+    g.reserved <= MOST_RESERVED
+        && (LEAST_SHIFT..=MOST_SHIFT).contains(&g.shift)
+        && width_ok(g.width)
+        && (1..=MOST_SECTIONS).contains(&g.sections)
+        && (1..=MOST_PROVIDED).contains(&g.provided)
 }
 
 // ---- a section
@@ -143,7 +144,7 @@ pub fn tag_area(g: Layout) -> usize
     requires { layout_ok g ≡ true }
     ensures { (result ≡ tag_area g) × (result ≤ 2 ^ 11) }
 {
-    8 * ((run_length(g) * g.width + 4095) / 4096)
+    8 * (run_length(g) * g.width).div_ceil(4096)
 }
 
 // The first sector of the run that has logical sector s.

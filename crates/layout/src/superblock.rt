@@ -35,23 +35,14 @@ pub fn superblock_at(v: &[u8], r: usize) -> &[u8]
     requires { (r + superblock_size) * sector_size ≤ length v.now }
     ensures { (result.now ≡ superblock_at r v.now) × (length result.now ≡ superblock_size * sector_size) }
 {
-    let start = r * SECTOR_SIZE;
-    let end = start + SUPERBLOCK_SIZE * SECTOR_SIZE;
-    &v[start..end]
+    &v[r * SECTOR_SIZE..(r + SUPERBLOCK_SIZE) * SECTOR_SIZE]
 }
 
 // Whether all bytes are zero.
 pub fn is_zero(b: &[u8]) -> bool
     ensures { result ≡ is_zero b.now }
 {
-    let mut i = 0;
-    while i < b.len() {
-        if b[i] != 0 {
-            return false;
-        }
-        i += 1;
-    }
-    true
+    b.iter().all(|&x| x == 0)
 }
 
 // The layout whose numbers the superblock holds, behind r reserved sectors.
@@ -61,7 +52,7 @@ pub fn layout_in(r: usize, b: &[u8]) -> Layout
 {
     Layout {
         reserved: r,
-        shift: b[SHIFT_AT] as usize,
+        shift: usize::from(b[SHIFT_AT]),
         width: octets::number(b, WIDTH_AT, 2) as usize,
         sections: octets::number(b, SECTIONS_AT, 4) as usize,
         provided: octets::number(b, PROVIDED_AT, 8) as usize,
@@ -73,11 +64,10 @@ pub fn superblock_ok(r: usize, b: &[u8]) -> bool
     requires { length b.now ≡ superblock_size * sector_size }
     ensures { result ≡ superblock_ok r b.now }
 {
-    let magic = MAGIC;
-    let known = octets::same_at(b, 0, &magic, 0, MAGIC_SIZE);
-    let zeros = is_zero(&b[ZEROS_AT..]);
-    let in_range = crate::layout_ok(layout_in(r, b));
-    known & (b[VERSION_AT] == VERSION) & zeros & in_range
+    octets::same_at(b, 0, &MAGIC, 0, MAGIC_SIZE)
+        && b[VERSION_AT] == VERSION
+        && is_zero(&b[ZEROS_AT..])
+        && crate::layout_ok(layout_in(r, b))
 }
 
 // Makes the superblock what format writes for the layout.
@@ -85,9 +75,8 @@ pub fn put_superblock(b: &mut [u8], g: Layout)
     requires { (layout_ok g ≡ true) × (length b.old ≡ superblock_size * sector_size) }
     ensures { b.new ≡ superblock_of g }
 {
-    let magic = MAGIC;
-    octets::copy_at(b, 0, &magic, 0, MAGIC_SIZE);
-    octets::put_number(b, VERSION_AT, 1, VERSION as u64);
+    octets::copy_at(b, 0, &MAGIC, 0, MAGIC_SIZE);
+    octets::put_number(b, VERSION_AT, 1, u64::from(VERSION));
     octets::put_number(b, SHIFT_AT, 1, g.shift as u64);
     octets::put_number(b, WIDTH_AT, 2, g.width as u64);
     octets::put_number(b, SECTIONS_AT, 4, g.sections as u64);

@@ -5,12 +5,12 @@ use mathlib.Core.Path.{◌≡◌, refl, sym, ap, ◌∙◌, subst}
 use native.Mathlib.Nat.{mul_comm, suc-mul, mul-le-mul_right, div-add-mod'}
 use native.Mathlib.Numerals.{add-one}
 use native.Mathlib.Omega.{arith}
-use lib.ListN.{length, take, drop, replicate, length-append, length-replicate, replicate-append-replicate}
+use lib.ListN.{length, take, drop, replicate, length-replicate, replicate-append-replicate}
 use lib.Seq.{take_at, drop-append-add, take_all}
 use borrow.Author.Tests.{lt-ltb, le-ltb}
 use Rattle.octets.specs.Numbers.{le}
 use Rattle.octets.specs.Parts.{part, patch}
-use Rattle.octets.proofs.Parts.{length-patch, take-patch, drop-replicate}
+use Rattle.octets.proofs.Parts.{take-patch, drop-replicate}
 use Rattle.on_disk.specs.Layout.{tag_part, entry_size, per_sector}
 use Rattle.on_disk.specs.Section.{unused, empty_entry, empty_sector}
 use Rattle.octets.specs.Lists.{collect}
@@ -32,11 +32,6 @@ module _ (t i : ℕ) where
   entries-length : length (collect i (λ j. empty_entry t)) ≡ i * entry_size t
   entries-length = length-collect (λ j. empty_entry t) (entry_size t) i (λ j l. simp length-replicate (omega arith))
 
-  pub marked-length : i * entry_size t ≤ 512 → length (marked t i) ≡ 512
-  marked-length h =
-      length-append (collect i (λ j. empty_entry t)) (replicate (512 - i * entry_size t) 0)
-      ∙ omega (arith, entries-length, length-replicate {A = ℕ} (512 - i * entry_size t) 0)
-
   pub mark-room : i < per_sector t → i * entry_size t + entry_size t ≤ 496
   mark-room l =
       let h : suc i * entry_size t ≤ per_sector t * entry_size t = mul-le-mul_right (entry_size t) l in
@@ -56,9 +51,6 @@ module _ (t i : ℕ) where
       ∙ sym (append_assoc (collect i (λ j. empty_entry t)) (empty_entry t) (replicate (512 - (i + 1) * entry_size t) 0))
       ∙ ap (λ (k : ℕ). collect k (λ j. empty_entry t) ++ replicate (512 - (i + 1) * entry_size t) 0) (sym (add-one i))
 
-pub none-marked : (t : ℕ) → replicate 512 0 ≡ marked t 0
-none-marked t = ap (λ (k : ℕ). replicate k 0) {x = 512} {y = 512 - 0 * entry_size t} (omega (arith, mul_comm 0 (entry_size t)))
-
 pub all-marked : (t i : ℕ) (r : List ℕ) → i ≡ per_sector t → r ≡ marked t i → r ≡ empty_sector t 0
 all-marked t i r e q =
     q ∙ ap (marked t) e
@@ -67,21 +59,17 @@ all-marked t i r e q =
 -- ---- a section: its first j sectors are those of an empty section
 
 module _ (t j : ℕ) (sec sec' : List ℕ) (h : j * 512 + 512 ≤ length sec) (e : take (j * 512) sec ≡ collect j (empty_sector t)) where
-  cleared : (x : List ℕ) → length x ≡ 512 → x ≡ empty_sector t j → sec' ≡ patch sec (j * 512) x
-      → (take ((j + 1) * 512) sec' ≡ collect (j + 1) (empty_sector t)) × (length sec' ≡ length sec)
+  cleared : (x : List ℕ) → length x ≡ 512 → x ≡ empty_sector t j → sec' ≡ patch sec (j * 512) x → take ((j + 1) * 512) sec' ≡ collect (j + 1) (empty_sector t)
   cleared x n w q =
-      let end : (j + 1) * 512 ≡ j * 512 + length x = omega arith in (
-        rw end (ap (take (j * 512 + length x)) q ∙ take-patch sec (j * 512) x (omega arith) ∙ ap (λ (y : List ℕ). y ++ x) e
-            ∙ ap (λ (y : List ℕ). collect j (empty_sector t) ++ y) w ∙ ap (λ (k : ℕ). collect k (empty_sector t)) (sym (add-one j))),
-        ap length q ∙ length-patch sec (j * 512) x (omega arith),
-      )
+      let end : (j + 1) * 512 ≡ j * 512 + length x = omega arith in
+      rw end (ap (take (j * 512 + length x)) q ∙ take-patch sec (j * 512) x (omega arith) ∙ ap (λ (y : List ℕ). y ++ x) e
+      ∙ ap (λ (y : List ℕ). collect j (empty_sector t) ++ y) w ∙ ap (λ (k : ℕ). collect k (empty_sector t)) (sym (add-one j)))
 
   pub clear-metadata : (x : List ℕ) → x ≡ empty_sector t 0 → length x ≡ 512 → j < 8 → sec' ≡ patch sec (j * 512) (part x 0 512)
-      → (take ((j + 1) * 512) sec' ≡ collect (j + 1) (empty_sector t)) × (length sec' ≡ length sec)
+      → take ((j + 1) * 512) sec' ≡ collect (j + 1) (empty_sector t)
   clear-metadata x m n l q =
       let same : empty_sector t 0 ≡ empty_sector t j = rw (lt-ltb j 8 l) in
       cleared x n (m ∙ same) (q ∙ ap (patch sec (j * 512)) (take_all 512 x (omega arith)))
 
-  pub clear-data : 8 ≤ j → sec' ≡ patch sec (j * 512) (replicate 512 0)
-      → (take ((j + 1) * 512) sec' ≡ collect (j + 1) (empty_sector t)) × (length sec' ≡ length sec)
+  pub clear-data : 8 ≤ j → sec' ≡ patch sec (j * 512) (replicate 512 0) → take ((j + 1) * 512) sec' ≡ collect (j + 1) (empty_sector t)
   clear-data l q = cleared (replicate 512 0) refl (rw (le-ltb j 8 l)) q

@@ -1,4 +1,3 @@
-pub mod Ids
 pub mod Entries
 pub mod Clearing
 pub mod Counts

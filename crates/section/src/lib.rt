@@ -22,7 +22,7 @@ pub struct Location {
 }
 
 // The logical sector of an unused entry.
-pub const UNUSED: u64 = 18446744073709551615;
+pub const UNUSED: u64 = u64::MAX;
 
 // The bytes of a commit id, and of a logical sector.
 pub const NUMBER_SIZE: usize = 8;
@@ -51,15 +51,9 @@ pub fn greatest_in(section: &[u8], t: usize) -> u64
     requires { (t ≤ most_width) × (length section.now ≡ section_size t * sector_size) }
     ensures { result ≡ greatest_in t section.now }
 {
-    let size = layout::section_size(t);
     let mut greatest: u64 = 0;
-    let mut j = 0;
-    while j < size {
-        let id = id_at(section, j);
-        if greatest < id {
-            greatest = id;
-        }
-        j += 1;
+    for j in 0..layout::section_size(t) {
+        greatest = greatest.max(id_at(section, j));
     }
     greatest
 }
@@ -89,8 +83,7 @@ pub fn entry_tag(section: &[u8], t: usize, i: usize) -> &[u8]
     ensures { (result.now ≡ (entry_of t section.now i).tag) × (length result.now ≡ t) }
 {
     let start = entry_at(t, i) + TAG_AT;
-    let end = start + t;
-    &section[start..end]
+    &section[start..start + t]
 }
 
 // Copies the 512 data bytes of entry i: the first 504 stand in its data sector, the others in the entry.
@@ -124,13 +117,10 @@ fn empty_metadata(t: usize) -> [u8; SECTOR_SIZE]
     requires { t ≤ most_width }
     ensures { (result ≡ empty_sector t 0) × (length result ≡ sector_size) }
 {
-    let per = layout::per_sector(t);
     let entry = layout::entry_size(t);
     let mut sector = [0u8; SECTOR_SIZE];
-    let mut i = 0;
-    while i < per {
+    for i in 0..layout::per_sector(t) {
         octets::put_number(&mut sector, i * entry, NUMBER_SIZE, UNUSED);
-        i += 1;
     }
     sector
 }
@@ -140,16 +130,13 @@ pub fn clear_section(section: &mut [u8], t: usize)
     requires { (t ≤ most_width) × (length section.old ≡ section_size t * sector_size) }
     ensures { section.new ≡ empty_section t }
 {
-    let size = layout::section_size(t);
     let metadata = empty_metadata(t);
-    let mut j = 0;
-    while j < size {
+    for j in 0..layout::section_size(t) {
         if j < METADATA_SIZE {
             octets::copy_at(section, j * SECTOR_SIZE, &metadata, 0, SECTOR_SIZE);
         } else {
             octets::fill_at(section, j * SECTOR_SIZE, SECTOR_SIZE, 0);
         }
-        j += 1;
     }
 }
 
@@ -160,15 +147,12 @@ pub fn stores_in(g: Layout, section: &[u8]) -> usize
     requires { (layout_ok g ≡ true) × (length section.now ≡ section_size g.width * sector_size) }
     ensures { ((k : ℕ) → result ≡ stores_of g (used_of g.width k section.now)) × (result ≤ 744) }
 {
-    let count = layout::entry_count(g.width);
     let mut stores = 0;
-    let mut i = 0;
-    while i < count {
+    for i in 0..layout::entry_count(g.width) {
         let sector = entry_sector(section, g.width, i);
         if sector != UNUSED {
             stores += layout::home_stores(g, sector);
         }
-        i += 1;
     }
     stores
 }
@@ -181,25 +165,23 @@ pub fn location_in(g: Layout, section: &[u8], from: Location) -> Location
 {
     let count = layout::entry_count(g.width);
     let mut left = from.store;
-    let mut i = from.entry;
-    while i < count {
+    for i in from.entry..count {
         let sector = entry_sector(section, g.width, i);
         if sector != UNUSED {
             let home = layout::home_stores(g, sector);
             if left < home {
                 return Location {
-                    section: from.section,
                     entry: i,
                     store: left,
+                    ..from
                 };
             }
             left -= home;
         }
-        i += 1;
     }
     Location {
-        section: from.section,
         entry: count,
         store: left,
+        ..from
     }
 }

@@ -12,37 +12,35 @@ use model::{Phase, State};
 use on_disk::Layout;
 
 // No commit may be given this id.
-pub const LAST_ID: u64 = 18446744073709551615;
+pub const LAST_ID: u64 = u64::MAX;
 
 // Whether the place of a phase exists, as far as neither volume nor staging is needed: of an entry, three stores.
 fn place_ok(g: Layout, count: usize, id: u64, p: Phase) -> bool
     requires { layout_ok g ≡ true }
     ensures { result ≡ place_ok g count id p }
 {
-    let size = layout::section_size(g.width);
     match p {
         Phase::Filling => true,
-        Phase::Committing(j) => (j < size) & ((0 < count) & (id < LAST_ID)),
-        Phase::WritingBack(i, h) => (i < count) & (h < layout::MOST_HOME_STORES),
+        Phase::Committing(j) => j < layout::section_size(g.width) && 0 < count && id < LAST_ID,
+        Phase::WritingBack(i, h) => i < count && h < layout::MOST_HOME_STORES,
         Phase::Recovering(_) => count == 0,
     }
 }
 
 // Whether a state is sound, as far as neither is needed.
+#[tactic(auto, unfolding(model::specs::State::state_ok))]
 pub fn state_ok(s: State) -> bool
     ensures { result ≡ state_ok s }
 {
     let g = s.layout;
-    if !layout::layout_ok(g) {
-        return false;
-    }
-    let most = layout::entry_count(g.width);
-    let p = s.phase;
-    let place = place_ok(g, s.count, s.id, p);
-    (s.count <= most) & ((s.id != 0) & place)
+    layout::layout_ok(g)
+        && s.count <= layout::entry_count(g.width)
+        && s.id != 0
+        && place_ok(g, s.count, s.id, s.phase)
 }
 
 // Whether a staging loan is as long as a section.
+#[tactic(auto, unfolding(model::specs::State::staging_ok))]
 pub fn staging_ok(g: Layout, st: &[u8]) -> bool
     requires { layout_ok g ≡ true }
     ensures { result ≡ staging_ok g st.now }
@@ -53,26 +51,17 @@ pub fn staging_ok(g: Layout, st: &[u8]) -> bool
 pub fn is_filling(p: Phase) -> bool
     ensures { result ≡ is_filling p }
 {
-    match p {
-        Phase::Filling => true,
-        Phase::Committing(_) => false,
-        Phase::WritingBack(_, _) => false,
-        Phase::Recovering(_) => false,
-    }
+    matches!(p, Phase::Filling)
 }
 
 pub fn is_recovering(p: Phase) -> bool
     ensures { result ≡ is_recovering p }
 {
-    match p {
-        Phase::Filling => false,
-        Phase::Committing(_) => false,
-        Phase::WritingBack(_, _) => false,
-        Phase::Recovering(_) => true,
-    }
+    matches!(p, Phase::Recovering(_))
 }
 
 // Whether st is a staging loan of its length, in which the place of a sound state exists: a third store only for an entry whose tag crosses.
+#[tactic(auto, unfolding(model::specs::State::staged_ok))]
 pub fn staged_ok(s: State, st: &[u8]) -> bool
     requires { state_ok s ≡ true }
     ensures { result ≡ staged_ok s st.now }
@@ -81,12 +70,9 @@ pub fn staged_ok(s: State, st: &[u8]) -> bool
     if !staging_ok(g, st) {
         return false;
     }
-    let p = s.phase;
-    match p {
-        Phase::Filling => true,
-        Phase::Committing(_) => true,
+    match s.phase {
         Phase::WritingBack(i, h) => h < staged_stores(g, st, i),
-        Phase::Recovering(_) => true,
+        _ => true,
     }
 }
 
@@ -103,11 +89,11 @@ pub fn layout_fits(g: Layout, v: &[u8]) -> bool
     requires { layout_ok g ≡ true }
     ensures { result ≡ volume_loan_ok v.now && leb (needed g * sector_size) (length v.now) }
 {
-    let loan = layout::volume_loan_ok(v);
-    loan & (layout::needed(g) * SECTOR_SIZE <= v.len())
+    layout::volume_loan_ok(v) && layout::needed(g) * SECTOR_SIZE <= v.len()
 }
 
 // Whether v is a volume that the layout fits, and on which the place of a sound state exists.
+#[tactic(auto, unfolding(model::specs::State::volume_ok))]
 pub fn volume_ok(s: State, v: &[u8]) -> bool
     requires { state_ok s ≡ true }
     ensures { result ≡ volume_ok s v.now }
@@ -116,12 +102,9 @@ pub fn volume_ok(s: State, v: &[u8]) -> bool
     if !layout_fits(g, v) {
         return false;
     }
-    let p = s.phase;
-    match p {
-        Phase::Filling => true,
-        Phase::Committing(_) => true,
-        Phase::WritingBack(_, _) => true,
+    match s.phase {
         Phase::Recovering(k) => k < recovery_steps(v, g),
+        _ => true,
     }
 }
 

@@ -8,9 +8,6 @@ overflow_shr-before c = omega (arith, shift-high c.args.g c.requires)
 pub overflow_shl-before : goal.overflow_shl-before
 overflow_shl-before c = omega (arith, shift-high c.args.g c.requires)
 
-pub overflow_sub-result : goal.overflow_sub-result
-overflow_sub-result c = (by-shifts c.args.g c.requires c.args.s (omega arith)).0
-
 pub returns : goal.returns
 returns c =
     let place = by-shifts c.args.g c.requires c.args.s (omega arith) in

@@ -12,14 +12,12 @@ use Rattle.section.proofs.clear_section.Goals.{then-j-lt-METADATA_SIZE, else-j-l
 pub loop-j-preserved : goal.loop-j-preserved
 loop-j-preserved c =
     let turn = c.loop-j in
-    let t = c.args.t in
+    let metadata = c.empty_metadata-metadata in
     elim c.if-j-lt-METADATA_SIZE.branch [
       | then-j-lt-METADATA_SIZE w ↦
-          let next = clear-metadata t turn.j turn.section c.if-j-lt-METADATA_SIZE.section (omega arith) turn.invariant.7 c.empty_metadata-metadata.result turn.invariant.5 turn.invariant.6 w.if-j-lt-METADATA_SIZE.true (w.section-is ∙ w.copy_at.ensures) in
-          (turn.invariant.0, turn.invariant.1, next.1 ∙ turn.invariant.2, next.1 ∙ turn.invariant.3, omega arith, turn.invariant.5, turn.invariant.6, next.0)
+          clear-metadata c.args.t turn.j turn.section _ (omega arith) turn.invariant metadata.result metadata.ensures.0 metadata.ensures.1 w.if-j-lt-METADATA_SIZE.true (w.section-is ∙ w.copy_at.ensures)
       | else-j-lt-METADATA_SIZE w ↦
-          let next = clear-data t turn.j turn.section c.if-j-lt-METADATA_SIZE.section (omega arith) turn.invariant.7 w.if-j-lt-METADATA_SIZE.false (w.section-is ∙ w.fill_at.ensures) in
-          (turn.invariant.0, turn.invariant.1, next.1 ∙ turn.invariant.2, next.1 ∙ turn.invariant.3, omega arith, turn.invariant.5, turn.invariant.6, next.0)
+          clear-data c.args.t turn.j turn.section _ (omega arith) turn.invariant w.if-j-lt-METADATA_SIZE.false (w.section-is ∙ w.fill_at.ensures)
     ]
 
 pub returns : goal.returns
@@ -27,4 +25,4 @@ unfolding empty_section
 returns c =
     let turn = c.loop-j in
     let all : turn.j ≡ section_size c.args.t = omega arith in
-    sym (take_all (turn.j * 512) turn.section (omega arith)) ∙ turn.invariant.7 ∙ ap (λ (k : ℕ). collect k (empty_sector c.args.t)) all
+    sym (take_all (turn.j * 512) turn.section (omega arith)) ∙ turn.invariant ∙ ap (λ (k : ℕ). collect k (empty_sector c.args.t)) all

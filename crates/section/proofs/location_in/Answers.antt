@@ -11,15 +11,10 @@ use Rattle.section.proofs.location_in.Goals as goal
 use Rattle.section.proofs.location_in.Goals.{then-sector+else-left-home, else-sector}
 
 pub entry_count-count-requires : goal.entry_count-count-requires
-entry_count-count-requires c =
-    width-high c.args.g c.requires.0
-
-pub loop-i-init : goal.loop-i-init
-loop-i-init c = (c.entry_count-count.ensures.0, c.entry_count-count.ensures.1, omega (arith, c.requires.2, c.entry_count-count.ensures.0), refl)
+entry_count-count-requires c = width-high c.args.g c.requires.0
 
 pub entry_sector-sector-requires : goal.entry_sector-sector-requires
-entry_sector-sector-requires c =
-    (width-high c.args.g c.requires.0, omega arith, c.requires.1)
+entry_sector-sector-requires c = (width-high c.args.g c.requires.0, omega arith, c.requires.1)
 
 pub returns-then-left-home : goal.returns-then-left-home
 returns-then-left-home c =
@@ -30,32 +25,25 @@ returns-then-left-home c =
     let home = c.home_stores-home.ensures.0 (entry_of g.width section turn.i) (sym sector) in
     let here = locates g section (record { section = c.args.from.section; entry = turn.i; store = turn.left }) (omega arith)
     (λ q. c.if-sector.true (sector ∙ q)) (omega (arith, home, c.if-left-home.true)) in
-    (found here turn.invariant.3, refl)
+    (found here turn.invariant, refl)
 
 pub loop-i-preserved : goal.loop-i-preserved
 loop-i-preserved c =
     let turn = c.loop-i in
     let g = c.args.g in
+    let k = c.args.from.section in
     let section = c.args.section.now in
+    let sector = c.entry_sector-sector.ensures in
     elim c.if-sector.branch [
-      | then-sector+else-left-home w ↦ (
-        omega arith,
-        omega arith,
-        omega arith,
-        omega (arith, w.home_stores-home.ensures.0 (entry_of g.width section turn.i) (sym c.entry_sector-sector.ensures), w.if-left-home.false, w.left-is, turn.invariant.3, count-used g c.args.from.section section turn.i (λ q. w.if-sector.true (c.entry_sector-sector.ensures ∙ q))),
-      )
-      | else-sector w ↦ (
-        omega arith,
-        omega arith,
-        omega arith,
-        omega (arith, w.left-is, turn.invariant.3, count-unused g c.args.from.section section turn.i (sym c.entry_sector-sector.ensures ∙ w.if-sector.false)),
-      )
+      | then-sector+else-left-home w ↦
+          omega (arith, w.home_stores-home.ensures.0 (entry_of g.width section turn.i) (sym sector), w.if-left-home.false, w.left-is, turn.invariant, count-used g k section turn.i (λ q. w.if-sector.true (sector ∙ q)))
+      | else-sector w ↦ omega (arith, w.left-is, turn.invariant, count-unused g k section turn.i (sym sector ∙ w.if-sector.false))
     ]
 
 pub returns : goal.returns
 returns c =
     let turn = c.loop-i in
     let g = c.args.g in
-    let all : turn.i ≡ entry_count g.width = omega (arith, turn.invariant.0, turn.invariant.2, c.loop-i-test.false) in
+    let all : turn.i ≡ entry_count g.width = omega arith in
     let stores = ap (λ (i : ℕ). length (stores_below g c.args.from.section c.args.section.now i)) all in
-    (missing turn.invariant.0 (omega (arith, stores, turn.invariant.3)), refl)
+    (missing c.entry_count-count.ensures.0 (omega (arith, stores, turn.invariant)), refl)

@@ -1,5 +1,5 @@
 use Prim.Native.Nat.{ℕ}
-use mathlib.Core.Path.{refl, sym, ap, ◌∙◌, ◌≡◌}
+use mathlib.Core.Path.{sym, ap, ◌∙◌, ◌≡◌}
 use native.Mathlib.Omega.{arith}
 use lib.ListN.{length}
 use Rattle.on_disk.specs.Layout.{entry_count}
@@ -10,16 +10,11 @@ use Rattle.section.proofs.Counts.{count-used, count-unused}
 use Rattle.section.proofs.stores_in.Goals as goal
 use Rattle.section.proofs.stores_in.Goals.{then-sector, else-sector}
 
-pub entry_count-count-requires : goal.entry_count-count-requires
-entry_count-count-requires c =
-    width-high c.args.g c.requires.0
-
-pub loop-i-init : goal.loop-i-init
-loop-i-init c = (omega arith, omega arith, omega arith, omega arith, λ k. refl)
+pub entry_count-i-end-requires : goal.entry_count-i-end-requires
+entry_count-i-end-requires c = width-high c.args.g c.requires.0
 
 pub entry_sector-sector-requires : goal.entry_sector-sector-requires
-entry_sector-sector-requires c =
-    (width-high c.args.g c.requires.0, omega arith, c.requires.1)
+entry_sector-sector-requires c = (width-high c.args.g c.requires.0, omega arith, c.requires.1)
 
 pub loop-i-preserved : goal.loop-i-preserved
 loop-i-preserved c =
@@ -29,24 +24,18 @@ loop-i-preserved c =
     let i = turn.i in
     elim c.if-sector.branch [
       | then-sector w ↦ (
-        omega arith,
-        omega arith,
-        omega arith,
-        omega (arith, w.home_stores-stores.ensures.2, w.stores-is, turn.invariant.3),
+        omega (arith, w.home_stores-stores.ensures.2, w.stores-is, turn.invariant.0),
         λ k. omega (
           arith,
           w.home_stores-stores.ensures.0 (entry_of g.width section i) (sym c.entry_sector-sector.ensures),
           w.stores-is,
-          turn.invariant.4 k,
+          turn.invariant.1 k,
           count-used g k section i (λ q. w.if-sector.true (c.entry_sector-sector.ensures ∙ q)),
         ),
       )
       | else-sector w ↦ (
         omega arith,
-        omega arith,
-        omega arith,
-        omega arith,
-        λ k. omega (arith, w.stores-is, turn.invariant.4 k, count-unused g k section i (sym c.entry_sector-sector.ensures ∙ w.if-sector.false)),
+        λ k. omega (arith, w.stores-is, turn.invariant.1 k, count-unused g k section i (sym c.entry_sector-sector.ensures ∙ w.if-sector.false)),
       )
     ]
 
@@ -55,4 +44,4 @@ returns c =
     let turn = c.loop-i in
     let g = c.args.g in
     let all : turn.i ≡ entry_count g.width = omega arith in
-    ((λ k. turn.invariant.4 k ∙ ap (λ (n : ℕ). length (stores_below g k c.args.section.now n)) all), omega arith)
+    ((λ k. turn.invariant.1 k ∙ ap (λ (n : ℕ). length (stores_below g k c.args.section.now n)) all), omega arith)
