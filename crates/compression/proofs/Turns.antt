@@ -1,7 +1,5 @@
 -- One turn of the loop over the rounds: four rounds, with their constants, and their words from the ring.
-use Rattle.std.proofs.Common.{◌≡◌, ℕ, ◌+◌, ◌-◌, ◌*◌, ◌/◌, ◌%◌, ◌<◌, List, get_or, ap, ◌∙◌, add-one, arith}
-use Rattle.octets.specs.Parts.{part}
-use Rattle.octets.proofs.Parts.{get_or-part}
+use Rattle.std.proofs.Common.{◌≡◌, ℕ, ◌+◌, ◌-◌, ◌%◌, ◌<◌, List, get_or, ap, ◌∙◌, add-one, arith}
 use Rattle.compression.specs.declared.Variables.{Variables}
 use Rattle.compression.specs.Constants.{K}
 use Rattle.compression.specs.Compression.{schedule_of, round_of, rounds_of}
@@ -12,14 +10,9 @@ round-step : (v : Variables) (w : List ℕ) (t : ℕ) → rounds_of (t + 1) v w 
 unfolding rounds_of
 round-step v w t = rw add-one
 
-module _ (s : Variables) (b : List ℕ) (t : ℕ) (k w : List ℕ) (aligned : t % 4 ≡ 0) (constants : k ≡ part K (4 * (t / 4)) 4) (ring : w ≡ ring_of (t + 4) b) where
+module _ (s : Variables) (b : List ℕ) (t : ℕ) (k w : List ℕ) (constants : k ≡ K) (ring : w ≡ ring_of (t + 4) b) where
   abbrev schedule : List ℕ
   schedule = schedule_of 64 b
-
-  constant : (i n : ℕ) → i < 4 → t + i ≡ n → get_or k i 0 ≡ get_or K n 0
-  constant i n h at =
-      let e : 4 * (t / 4) + i ≡ n = omega arith in
-      ap (λ (l : List ℕ). get_or l i 0) constants ∙ get_or-part K (4 * (t / 4)) 4 i h ∙ ap (λ (m : ℕ). get_or K m 0) e
 
   word : (i n : ℕ) → i < 4 → t + i ≡ n → get_or w (n % 16) 0 ≡ get_or schedule n 0
   word i n h at =
@@ -27,13 +20,13 @@ module _ (s : Variables) (b : List ℕ) (t : ℕ) (k w : List ℕ) (aligned : t 
       ap (λ (l : List ℕ). get_or l (n % 16) 0) ring ∙ (rw e at (ring-holds b (t + 4) (4 - i) (omega arith) (omega arith) (omega arith)))
 
   -- round n, the i-th of the four
-  one : (i n m : ℕ) (v r : Variables) → i < 4 → t + i ≡ n → n + 1 ≡ m → v ≡ rounds_of n s schedule → r ≡ round_of v (get_or k i 0) (get_or w (n % 16) 0)
+  one : (i n m : ℕ) (v r : Variables) → i < 4 → t + i ≡ n → n + 1 ≡ m → v ≡ rounds_of n s schedule → r ≡ round_of v (get_or k n 0) (get_or w (n % 16) 0)
       → r ≡ rounds_of m s schedule
-  one i n m v r h at next e made = cc (constant i n h at, word i n h at, round-step s schedule n)
+  one i n m v r h at next e made = cc (word i n h at, round-step s schedule n)
 
   pub rounds-turn : (v v₁ v₂ v₃ v₄ : Variables) → v ≡ rounds_of t s schedule
-      → v₁ ≡ round_of v (get_or k 0 0) (get_or w (t % 16) 0) → v₂ ≡ round_of v₁ (get_or k 1 0) (get_or w ((t + 1) % 16) 0)
-      → v₃ ≡ round_of v₂ (get_or k 2 0) (get_or w ((t + 2) % 16) 0) → v₄ ≡ round_of v₃ (get_or k 3 0) (get_or w ((t + 3) % 16) 0)
+      → v₁ ≡ round_of v (get_or k t 0) (get_or w (t % 16) 0) → v₂ ≡ round_of v₁ (get_or k (t + 1) 0) (get_or w ((t + 1) % 16) 0)
+      → v₃ ≡ round_of v₂ (get_or k (t + 2) 0) (get_or w ((t + 2) % 16) 0) → v₄ ≡ round_of v₃ (get_or k (t + 3) 0) (get_or w ((t + 3) % 16) 0)
       → v₄ ≡ rounds_of (t + 4) s schedule
   rounds-turn v v₁ v₂ v₃ v₄ e e₁ e₂ e₃ e₄ =
       let r₁ = one 0 t (t + 1) v v₁ (omega arith) (omega arith) (omega arith) e e₁ in

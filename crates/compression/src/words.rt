@@ -1,13 +1,6 @@
 // Operations on 32-bit words and the functions of SHA-256: FIPS 180-4, sections 3.2 and 4.1.2.
 ghost use Rattle.std.specs.Prelude.{◌≡◌, ◌<◌};
-ghost use Rattle.compression.specs.Words.{◌⊞◌, rotr, Ch, Maj, Σ₀, Σ₁, σ₀, σ₁};
-
-// The sum modulo 2^32.
-pub(crate) fn add(x: u32, y: u32) -> u32
-    ensures { result ≡ x ⊞ y }
-{
-    std::num::wrapping_add_u32(x, y)
-}
+ghost use Rattle.compression.specs.Words.{rotr, Ch, Maj, Σ₀, Σ₁, σ₀, σ₁};
 
 // The rotation right by n bits, by shifts and or: R96. Written so, it compiles to one instruction.
 fn rotate(x: u32, n: u32) -> u32

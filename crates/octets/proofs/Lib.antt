@@ -1,6 +1,7 @@
 pub mod Numbers
 pub mod Parts
 pub mod Lists
+pub mod Reading
 pub mod Slices
 pub mod Sectors
 pub mod Choice

@@ -8,26 +8,14 @@ ghost use Rattle.std.specs.Prelude.{◌≡◌, ◌+◌, ◌^◌, ◌≤◌, ◌<
 ghost use Rattle.octets.specs.Numbers.{le, value};
 ghost use Rattle.octets.specs.Parts.{part, patch, same};
 
-// A byte as a u64, with its bound, which a sum with it needs.
-fn wide(b: u8) -> u64
-    ensures { (result ≡ b) × (result < 256) }
-{
-    b as u64
-}
-
 // The number in the n bytes of s from index `at`, the least significant first.
 pub fn number(s: &[u8], at: usize, n: usize) -> u64
     requires { (n ≤ 8) × (at + n ≤ length s.now) }
     ensures { (result ≡ value (part s.now at n)) × (result < 256 ^ n) }
 {
-    let mut v: u64 = 0;
-    let mut i = n;
-    while 0 < i {
-        i -= 1;
-        let b = wide(s[at + i]);
-        v = v * 256 + b;
-    }
-    v
+    let mut bytes = [0u8; 8];
+    bytes[..n].copy_from_slice(&s[at..at + n]);
+    u64::from_le_bytes(bytes)
 }
 
 // Sets the n bytes of s from index `at` to those of x, the least significant first; what does not fit is left out.
@@ -36,26 +24,19 @@ pub fn put_number(s: &mut [u8], at: usize, n: usize, x: u64)
     ensures { s.new ≡ patch s.old at (le n x) }
 {
     let mut v = x;
-    let mut i = 0;
-    while i < n {
-        s[at + i] = (v % 256) as u8;
-        v = v / 256;
-        i += 1;
+    for b in s[at..at + n].iter_mut() {
+        *b = (v % 256) as u8;
+        v /= 256;
     }
 }
 
-// Whether the n bytes of a from index x are those of b from index y. All are looked at, so that the loop does not end where they differ.
+// Whether the n bytes of a from index x are those of b from index y. All are looked at: the fold does not end where they differ.
 pub fn same_at(a: &[u8], x: usize, b: &[u8], y: usize, n: usize) -> bool
     requires { (x + n ≤ length a.now) × (y + n ≤ length b.now) }
     ensures { result ≡ same (part a.now x n) (part b.now y n) }
 {
-    let mut same = true;
-    let mut i = 0;
-    while i < n {
-        same = same & (a[x + i] == b[y + i]);
-        i += 1;
-    }
-    same
+    let pairs = a[x..x + n].iter().zip(b[y..y + n].iter());
+    pairs.fold(true, |same, (p, q)| same & (*p == *q))
 }
 
 // Sets the n bytes of d from index `at` to those of s from index `from`.
@@ -63,11 +44,7 @@ pub fn copy_at(d: &mut [u8], at: usize, s: &[u8], from: usize, n: usize)
     requires { (at + n ≤ length d.old) × (from + n ≤ length s.now) }
     ensures { d.new ≡ patch d.old at (part s.now from n) }
 {
-    let mut i = 0;
-    while i < n {
-        d[at + i] = s[from + i];
-        i += 1;
-    }
+    d[at..at + n].copy_from_slice(&s[from..from + n]);
 }
 
 // Sets the n bytes of d from index `at` to x.
@@ -75,9 +52,5 @@ pub fn fill_at(d: &mut [u8], at: usize, n: usize, x: u8)
     requires { at + n ≤ length d.old }
     ensures { d.new ≡ patch d.old at (replicate n x) }
 {
-    let mut i = 0;
-    while i < n {
-        d[at + i] = x;
-        i += 1;
-    }
+    d[at..at + n].fill(x);
 }

@@ -1,4 +1,4 @@
-use Rattle.std.proofs.Common.{◌-◌, ◌%◌, get_or, ◌∙◌, arith}
+use Rattle.std.proofs.Common.{◌-◌, ◌%◌, get_or, arith}
 use Rattle.compression.specs.Words.{◌⊞◌}
 use Rattle.compression.proofs.Ring.{next-turn}
 use Rattle.compression.proofs.put_next_word.Goals as goal
@@ -7,9 +7,5 @@ pub returns : goal.returns
 returns c = λ b ring.
     let t = c.args.t in
     let w = c.args.w.now in
-    let x =
-    c.add-x.ensures
-    ∙ (λ i. c.small_sigma1.ensures i ⊞ get_or w ((t - 7) % 16) 0) in
-    let y = c.add-y.ensures ∙ (λ i. x i ⊞ c.small_sigma0.ensures i) in
-    let word = c.add.ensures ∙ (λ i. y i ⊞ get_or w ((t - 16) % 16) 0) in
-    next-turn b w t _ (omega arith) (omega arith) ring word
+    next-turn b w t _ (omega arith) (omega arith) ring
+    (λ i. c.small_sigma1.ensures i ⊞ get_or w ((t - 7) % 16) 0 ⊞ c.small_sigma0.ensures i ⊞ get_or w ((t - 16) % 16) 0)

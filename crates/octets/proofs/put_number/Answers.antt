@@ -1,34 +1,40 @@
-use Prim.Native.Nat.{ℕ, ◌-◌}
-use native.Mathlib.Omega.{arith}
-use mathlib.Core.Path.{◌≡◌, refl, ap, ◌∙◌}
-use lib.ListN.{length, length-set}
-use lib.Seq.{paste-zero}
+use Rattle.std.proofs.Common.{◌≡◌, ℕ, ◌+◌, ◌-◌, refl, sym, ap, ◌∙◌, length-set, arith}
+use Rattle.std.proofs.lemmas.Slice.{put_mid-paste}
 use Rattle.octets.specs.Numbers.{le}
 use Rattle.octets.proofs.Numbers.{length-le}
 use Rattle.octets.proofs.Parts.{paste-patch}
-use Rattle.octets.proofs.Turns.{turn, le-first, le-rest}
+use Rattle.octets.proofs.Slices.{lent}
+use Rattle.octets.proofs.Turns.{le-written, le-rest, le_all}
 use Rattle.octets.proofs.put_number.Goals as goal
 
-pub loop-i-init : goal.loop-i-init
-loop-i-init c =
+pub loop-b-init : goal.loop-b-init
+loop-b-init c =
     let a = c.args in
-    let m : a.n ≡ a.n - 0 = omega arith in
-    (omega arith, omega arith, refl, paste-zero a.s.now a.at (le a.n a.x), ap (λ (k : ℕ). le k a.x) m)
+    let all : a.n ≡ a.n - 0 = omega arith in
+    record {
+      within = omega arith;
+      size = (lent a.s.now a.at a.n (omega arith)).1;
+      written = refl;
+      left = ap (λ (k : ℕ). le k a.x) all;
+    }
 
-pub loop-i-preserved : goal.loop-i-preserved
-loop-i-preserved c =
+pub loop-b-preserved : goal.loop-b-preserved
+loop-b-preserved c =
     let a = c.args in
-    let here = c.loop-i in
-    let size : length (le a.n a.x) ≡ a.n = length-le a.n a.x in
-    let first = le-first a.n here.i a.x here.v (omega arith) here.invariant.4 in (
-      omega arith,
-      omega arith,
-      simp length-set here.invariant.2,
-      turn a.s.now a.at (le a.n a.x) (omega arith) here.s here.i _ (omega arith) first here.invariant.3,
-      le-rest a.n here.i a.x here.v (omega arith) here.invariant.4,
-    )
+    let here = c.loop-b in
+    let kept = here.invariant in
+    record {
+      within = omega arith;
+      size = simp length-set kept.size;
+      written = le-written a.n here.b-index a.x here.v here.b-items (omega arith) kept.size kept.left kept.written;
+      left = le-rest a.n here.b-index a.x here.v here.b-items (omega arith) kept.size kept.left;
+    }
 
 pub returns : goal.returns
 returns c =
     let a = c.args in
-    c.loop-i.invariant.3 ∙ paste-patch a.s.now a.at (le a.n a.x) c.loop-i.i (omega (arith, length-le a.n a.x))
+    let here = c.loop-b in
+    let size = sym (length-le a.n a.x) in
+    let bytes = le_all a.n here.b-index a.x here.b-items (omega arith) here.invariant.size here.invariant.written in
+    put_mid-paste a.at (a.at + a.n - a.at) a.s.now here.b-items (le a.n a.x) a.n bytes (omega arith) size
+    ∙ paste-patch a.s.now a.at (le a.n a.x) a.n size

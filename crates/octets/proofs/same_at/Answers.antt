@@ -1,16 +1,23 @@
-use Prim.Native.Nat.{ℕ}
-use mathlib.Core.Path.{refl, ap, ◌∙◌}
-use native.Mathlib.Omega.{arith}
+use Rattle.std.proofs.Common.{◌≡◌, ℕ, Bool, true, ◌&&◌, eqb, sym, ap, ◌∙◌, length, rules, arith}
+use Rattle.std.specs.Slice.Iter.{iter_rest}
+use Rattle.std.proofs.lemmas.Iterator.{YieldsList-from_zip, YieldsList-from_slice}
+use Rattle.std.proofs.lemmas.Iterator.Consumers.{fold_from_yields_List}
+use borrow.Author.Tests.{tests}
 use Rattle.octets.specs.Parts.{part}
-use Rattle.octets.specs.Parts as parts
-use Rattle.octets.proofs.Turns.{same_turn}
+use Rattle.octets.proofs.Parts.{length_part}
+use Rattle.octets.proofs.Slices.{lent}
+use Rattle.octets.proofs.Turns.{fold-same}
 use Rattle.octets.proofs.same_at.Goals as goal
 
-pub loop-i-init : goal.loop-i-init
-loop-i-init c = (omega arith, omega (arith, c.requires), omega (arith, c.requires), refl)
-
-pub loop-i-preserved : goal.loop-i-preserved
-loop-i-preserved c = (omega arith, omega arith, omega arith, same_turn c.args.a.now c.args.x c.args.b.now c.args.y c.loop-i.i c.loop-i.same (omega arith) (omega arith) c.loop-i.invariant.3)
-
 pub returns : goal.returns
-returns c = c.loop-i.invariant.3 ∙ ap (λ (k : ℕ). parts.same (part c.args.a.now c.args.x k) (part c.args.b.now c.args.y k)) {x = c.loop-i.i} {y = c.args.n} (omega arith)
+returns c =
+    let a = c.args in
+    let p = part a.a.now a.x a.n in
+    let q = part a.b.now a.y a.n in
+    let first = ap iter_rest c.zip-pairs.ensures.first ∙ c.iter.ensures.rest ∙ (lent a.a.now a.x a.n (omega arith)).0 in
+    let second = ap iter_rest c.zip-pairs.ensures.second ∙ c.iter-2.ensures.rest ∙ (lent a.b.now a.y a.n (omega arith)).0 in
+    let size : length p ≡ length q = length_part a.a.now a.x a.n (omega arith) ∙ sym (length_part a.b.now a.y a.n (omega arith)) in
+    fold_from_yields_List _ (λ (s : Bool) (z : ℕ × ℕ). s && eqb z.0 z.1) true c.fold.result c.fold.ensures.ran
+    (YieldsList-from_zip (YieldsList-from_slice p first) (YieldsList-from_slice q second))
+    (λ s z t f called. search (rules, tests))
+    ∙ fold-same p q true size
