@@ -5,13 +5,14 @@
 #![tactic(auto)]
 
 ghost use Rattle.std.specs.Prelude.{◌≡◌, length};
-ghost use Rattle.tree.specs.Answer.{answer_of};
+ghost use Rattle.octets.specs.Answer.{refused};
+ghost use Rattle.tree.specs.Answer.{refusal_of};
 ghost use Rattle.c_numbers.specs.Sizes.{level_size};
 ghost use Rattle.c_tree.specs.HashTree.{level_buffer_of, length_call, build_call, verify_call};
 
 use c_digest::state::put_digest;
 use c_numbers::{digest_size, done, level_size, wrong_length};
-use tree::Answer;
+use tree::Refusal;
 
 // The level of the data block, −1, in 4 bytes.
 const DATA_LEVEL: u64 = 4294967295;
@@ -32,15 +33,13 @@ pub fn build(count: usize, salt: &[u8], image: &[u8], tree: &mut [u8], root: &mu
     if root.len() != digest_size() {
         return wrong_length();
     }
-    let built = tree::build(count, salt, image, tree);
-    let answer = built.answer;
-    let number = tree::number(answer);
-    if number != done() {
-        return number;
+    match tree::build(count, salt, image, tree) {
+        Ok(digest) => {
+            put_digest(digest, root);
+            done()
+        }
+        Err(refusal) => u32::from(refusal),
     }
-    let bytes = built.root;
-    put_digest(bytes, root);
-    number
 }
 
 // Whether the data block with this index verifies. Refused where the level's buffer has a wrong length, or as verifying is; the level's
@@ -60,22 +59,24 @@ pub fn verify(
     if level.len() != level_size() {
         return wrong_length();
     }
-    let answer = tree::verify(block, index, tree, count, salt, root);
-    put_level(answer, level);
-    tree::number(answer)
+    match tree::verify(block, index, tree, count, salt, root) {
+        Ok(()) => done(),
+        Err(refusal) => {
+            put_level(refusal, level);
+            u32::from(refusal)
+        }
+    }
 }
 
-// The level that an answer names, written over a buffer of its length; an answer that names none leaves the buffer as it was.
-fn put_level(a: Answer, buffer: &mut [u8])
+// The level that a refusal names, written over a buffer of its length; a refusal that names none leaves the buffer as it was.
+fn put_level(refusal: Refusal, buffer: &mut [u8])
     requires { length buffer.old ≡ level_size }
-    ensures { buffer.new ≡ level_buffer_of (answer_of a) buffer.old }
+    ensures { buffer.new ≡ level_buffer_of (refused (refusal_of refusal)) buffer.old }
 {
-    let size = level_size();
-    match a {
-        Answer::Taken => {}
-        Answer::WrongLength => {}
-        Answer::OutOfRange => {}
-        Answer::DataDiffers => octets::put_number(buffer, 0, size, DATA_LEVEL),
-        Answer::LevelDiffers(l) => octets::put_number(buffer, 0, size, l as u64),
-    }
+    let level = match refusal {
+        Refusal::WrongLength | Refusal::OutOfRange => return,
+        Refusal::DataDiffers => DATA_LEVEL,
+        Refusal::LevelDiffers(l) => l as u64,
+    };
+    octets::put_number(buffer, 0, level_size(), level)
 }

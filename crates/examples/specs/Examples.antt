@@ -1,7 +1,7 @@
 -- The numbers of two rules, a table each. R91: the examples that are proved together. R71: the number and values of each answer.
 --
 -- A row has what the definitions give, and the rule's numbers (`paper`). The claim, one for a table, is that they are the same in every row.
-use Rattle.std.specs.Prelude.{ℕ, ◌-◌, ◌*◌, Bool, true, ◌&&◌, List, [], ◌∷◌, ◌++◌, ◌≡◌, refl, ℤ, pos, negsuc, length, replicate}
+use Rattle.std.specs.Prelude.{ℕ, ◌-◌, ◌*◌, Bool, true, ◌&&◌, List, [], ◌∷◌, ◌++◌, ◌≡◌, refl, ℤ, pos, negsuc, length, replicate, Err}
 use Rattle.octets.specs.Answer.{Answer, taken, refused, number_in}
 use Rattle.octets.specs.Parts.{same}
 use Rattle.on_disk.specs.declared.Layout.{Layout}
@@ -23,7 +23,7 @@ use Rattle.digest.specs.declared.Answer.TheVariants as digest
 use Rattle.digest.specs.Answer as digest-answers
 use Rattle.hmac.specs.declared.Answer.TheVariants as hmac
 use Rattle.hmac.specs.Answer as hmac-answers
-use Rattle.tree.specs.declared.Answer.TheVariants as tree
+use Rattle.tree.specs.declared.Refusal.TheVariants as tree
 use Rattle.tree.specs.Answer as tree-answers
 use Rattle.tree_path.specs.Places.{levels_above, levels_of, hash_blocks_of, digest_at}
 use Rattle.tree.specs.Build.{build_of}
@@ -213,12 +213,12 @@ refusals =
     -- 11: a whole section that is not where its id belongs, with the section
     record { given = told_plain (volume_answer (volume.Misplaced 2)); paper = pos 11 ∷ pos 2 ∷ [] } ∷
     -- tree. 1: the length of a loan
-    record { given = told (tree-answers.answer_of tree.WrongLength); paper = pos 1 ∷ [] } ∷
+    record { given = told (tree-answers.answer_of (Err tree.WrongLength)); paper = pos 1 ∷ [] } ∷
     -- tree. 2: a parameter
-    record { given = told (tree-answers.answer_of tree.OutOfRange); paper = pos 2 ∷ [] } ∷
+    record { given = told (tree-answers.answer_of (Err tree.OutOfRange)); paper = pos 2 ∷ [] } ∷
     -- tree. 12: a block that does not verify, with the highest failing level; the data block is level −1 (R84)
-    record { given = told (tree-answers.answer_of tree.DataDiffers); paper = pos 12 ∷ negsuc 0 ∷ [] } ∷
-    record { given = told (tree-answers.answer_of (tree.LevelDiffers 1)); paper = pos 12 ∷ pos 1 ∷ [] } ∷
+    record { given = told (tree-answers.answer_of (Err tree.DataDiffers)); paper = pos 12 ∷ negsuc 0 ∷ [] } ∷
+    record { given = told (tree-answers.answer_of (Err (tree.LevelDiffers 1))); paper = pos 12 ∷ pos 1 ∷ [] } ∷
     []
 
 abbrev pub refusal_count : ℕ

@@ -7,11 +7,12 @@ use mathlib.Core.Path.{◌≡◌, ◌∙◌}
 use native.Mathlib.Omega.{arith}
 use lib.IntN.{negsuc}
 use lib.ListN.{length}
+use Rattle.std.specs.Prelude.{Result, Err}
 use Rattle.octets.specs.Answer.{taken, refuse}
 use Rattle.octets.specs.Parts.{same}
 use Rattle.digest.specs.Sha256.{sha256}
-use Rattle.tree.specs.declared.Answer as code
-use Rattle.tree.specs.declared.Answer.TheVariants.{LevelDiffers}
+use Rattle.tree.specs.declared.Refusal as code
+use Rattle.tree.specs.declared.Refusal.TheVariants.{LevelDiffers}
 use Rattle.tree.specs.Answer.{answer_of, mismatch}
 use Rattle.tree_path.specs.Places.{parents_of, levels_above, levels_of, places_of, tree_length}
 use Rattle.tree_path.specs.Tree.{block_of}
@@ -53,8 +54,8 @@ module _ (b : List ℕ) (i : ℕ) (t : List ℕ) (n : ℕ) (s r : List ℕ) wher
 
 -- ---- two levels are told apart
 
-levels-apart : (l m : ℕ) → answer_of (LevelDiffers l) ≡ answer_of (LevelDiffers m) → ◌≡◌ {A = code.Answer} (LevelDiffers l) (LevelDiffers m)
-levels-apart l m = answers-differ (LevelDiffers l) (LevelDiffers m)
+levels-apart : (l m : ℕ) → answer_of (Err (LevelDiffers l)) ≡ answer_of (Err (LevelDiffers m)) → ◌≡◌ {A = Result (Unit {0}) code.Refusal} (Err (LevelDiffers l)) (Err (LevelDiffers m))
+levels-apart l m = answers-differ (Err (LevelDiffers l)) (Err (LevelDiffers m))
 
 -- ---- one data block, under the longest salt: what is built, a tree loan that is not empty, and a block that is verified
 

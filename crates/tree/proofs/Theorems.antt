@@ -8,12 +8,13 @@ use lib.Dec.{eqb, leb}
 use lib.IntN.{ℤ, pos, negsuc}
 use lib.ListN.{length}
 use borrow.Author.Tests.{ne_eqb, lt-leb, le-leb, eqb-true, eqb-false, ltb-false, leb-false, not-false}
+use Rattle.std.specs.Prelude.{Result, Ok, Err}
 use Rattle.octets.specs.Answer.{Answer, taken, refused, refuse, number_in}
 use Rattle.octets.specs.Choice.{pick, first_met}
 use Rattle.octets.proofs.Choice.{Unmet, unmet}
 use Rattle.octets.proofs.Parts.{length_part}
-use Rattle.tree.specs.declared.Answer as code
-use Rattle.tree.specs.declared.Answer.TheVariants.{Taken, WrongLength, OutOfRange, DataDiffers, LevelDiffers}
+use Rattle.tree.specs.declared.Refusal as code
+use Rattle.tree.specs.declared.Refusal.TheVariants.{WrongLength, OutOfRange, DataDiffers, LevelDiffers}
 use Rattle.digest.specs.Sha256.{digest_size}
 use Rattle.tree_path.specs.Places.{block_size, digests_per_block, most_blocks, longest_salt, levels_above, levels_of, hash_blocks_of, places_of, tree_length}
 use Rattle.tree_path.specs.Tree.{block_of, tree_of, root_of}
@@ -33,22 +34,22 @@ use Rattle.tree.proofs.Returns.{verify-path, build-made}
 -- ---- answers
 
 -- the answer, from number and values
-told : Answer ℤ (Unit {0}) → code.Answer
-told (taken x) = Taken
-told (refused r) = go r.number r.values
+told : Answer ℤ (Unit {0}) → Result (Unit {0}) code.Refusal
+told (taken x) = Ok x
+told (refused r) = Err (go r.number r.values)
   where
-    go : ℕ → List ℤ → code.Answer
+    go : ℕ → List ℤ → code.Refusal
     go n (pos l ∷ vs) = LevelDiffers l
     go n (negsuc x ∷ vs) = DataDiffers
     go n [] = pick (eqb n 1) WrongLength OutOfRange
 
-told_back : (a : code.Answer) → told (answer_of a) ≡ a
+told_back : (a : Result (Unit {0}) code.Refusal) → told (answer_of a) ≡ a
 unfolding told
-told_back Taken = refl
-told_back WrongLength = refl
-told_back OutOfRange = refl
-told_back DataDiffers = refl
-told_back (LevelDiffers l) = refl
+told_back (Ok x) = refl
+told_back (Err WrongLength) = refl
+told_back (Err OutOfRange) = refl
+told_back (Err DataDiffers) = refl
+told_back (Err (LevelDiffers l)) = refl
 
 pub answers-differ : AnswersDiffer
 answers-differ a b e = sym (told_back a) ∙ ap told e ∙ told_back b
@@ -67,16 +68,16 @@ module _ (b : List ℕ) (i : ℕ) (t : List ℕ) (n : ℕ) (s r : List ℕ) wher
 
   fitting : Fits b i t n s r → verify_of b i t n s r ≡ compared_of computed_here standing_here
   fitting f =
-      sym (verify-path b i t n s r f.block f.digest (omega (arith, f.some)) f.count f.salt f.index f.tree)
+      sym (verify-path b i t n s r f.block f.digest (f.some, f.count, f.salt) f.index f.tree)
 
   -- a refusal is not taken
-  refusal : (k : ℕ) → 0 < k → refuse k [] ≢ answer_of Taken
+  refusal : (k : ℕ) → 0 < k → refuse k [] ≢ answer_of (Ok tt)
   refusal k l e = let z : k ≡ 0 = ap (λ (x : Answer ℤ (Unit {0})). number_in x) e in omega arith
 
-  refused-1 : refuse 1 [] ≢ answer_of Taken
+  refused-1 : refuse 1 [] ≢ answer_of (Ok tt)
   refused-1 = refusal 1 (omega arith)
 
-  refused-2 : refuse 2 [] ≢ answer_of Taken
+  refused-2 : refuse 2 [] ≢ answer_of (Ok tt)
   refused-2 = refusal 2 (omega arith)
 
   passed : verify_of b i t n s r ≡ taken tt → Unmet (loan_rows b i t n s r ++ path_rows 0 computed_here standing_here)
@@ -156,7 +157,7 @@ pub built-is-accepted : BuiltIsAccepted
 built-is-accepted n s d t some count salt image size = (ap (λ (o : BuildOutcome). o.answer) (sym built), each)
   where
     built : built_of n s d ≡ build_of n s d t
-    built = build-made n s d t (omega arith) count salt image size
+    built = build-made n s d t (some, count, salt) image size
 
     fits : (i : ℕ) → i < n → Fits (block_of d i) i (tree_of (levels_of n) s n d) n s (root_of (levels_of n) s n d)
     fits i l = record {

@@ -1,5 +1,5 @@
 -- What is proved of building and verifying, beyond each call's own contract; the proofs are in proofs/Theorems.
-use Rattle.std.specs.Prelude.{ℕ, suc, ◌*◌, ◌≤◌, ◌<◌, not, List, [], ◌∷◌, ◌++◌, ◌≢◌, ◌≡◌, eqb, ltb, leb, negsuc, length, get_or}
+use Rattle.std.specs.Prelude.{ℕ, suc, ◌*◌, ◌≤◌, ◌<◌, not, List, [], ◌∷◌, ◌++◌, ◌≢◌, ◌≡◌, eqb, ltb, leb, negsuc, length, get_or, Result}
 use Rattle.octets.specs.Answer.{taken, refuse}
 use Rattle.octets.specs.Choice.{differs, first_met}
 use Rattle.octets.specs.Parts.{same}
@@ -7,7 +7,7 @@ use Rattle.digest.specs.Sha256.{digest_size, sha256}
 use Rattle.tree_path.specs.Places.{block_size, digests_per_block, most_blocks, longest_salt, parents_of, levels_above, levels_of, places_of, tree_length}
 use Rattle.tree_path.specs.Tree.{block_of}
 use Rattle.tree_path.specs.Path.{computed_of, standing_of}
-use Rattle.tree.specs.declared.Answer as code
+use Rattle.tree.specs.declared.Refusal as code
 use Rattle.tree.specs.Answer.{mismatch, answer_of}
 use Rattle.tree.specs.Build.{not_built, build_of}
 use Rattle.tree.specs.Verify.{verify_of}
@@ -15,7 +15,7 @@ use Rattle.tree.specs.Acceptance.{Fits, Acceptable}
 
 -- Number and values tell the answers apart: a contract that states them states the answer.
 abbrev pub AnswersDiffer : Type 0
-AnswersDiffer = (a b : code.Answer) → answer_of a ≡ answer_of b → a ≡ b
+AnswersDiffer = (a b : Result (Unit {0}) code.Refusal) → answer_of a ≡ answer_of b → a ≡ b
 
 -- Verifying accepts exactly the blocks that are to be accepted.
 abbrev pub AcceptsExactly : Type 0

@@ -1,24 +1,26 @@
 // The digests computed along a path are compared with what stands above each: specs/Verify.antt.
 ghost use Rattle.std.specs.Prelude.{ℕ, ◌+◌, ◌<◌, ◌≤◌, ◌≡◌, length, get_or, take};
+ghost use Rattle.octets.specs.Answer.{refused};
 ghost use Rattle.octets.specs.Parts.{part, same};
 ghost use Rattle.digest.specs.Sha256.{digest_size};
 ghost use Rattle.tree_path.specs.Places.{most_levels};
 ghost use Rattle.tree_path.specs.Path.{standing_of};
-ghost use Rattle.tree.specs.Answer.{mismatch, answer_of};
+ghost use Rattle.tree.specs.Answer.{mismatch, refusal_of, answer_of};
 ghost use Rattle.tree.specs.Verify.{compared_of};
 
-use crate::Answer;
+use crate::Refusal;
 use digest::DIGEST_SIZE;
 use tree_path::places::MOST_DIGESTS;
 
 // The refusal 12 at place k on the path.
-fn differs(k: usize) -> Answer
-    ensures { answer_of result ≡ mismatch k }
+fn differs(k: usize) -> Refusal
+    ensures { refused (refusal_of result) ≡ mismatch k }
 {
     if k == 0 {
-        return Answer::DataDiffers;
+        Refusal::DataDiffers
+    } else {
+        Refusal::LevelDiffers(k - 1)
     }
-    Answer::LevelDiffers(k - 1)
 }
 
 // Whether the digest d stands at byte at of s.
@@ -36,22 +38,17 @@ pub(crate) fn compare(
     at: [usize; MOST_DIGESTS],
     tree: &[u8],
     root: &[u8],
-) -> Answer
+) -> Result<(), Refusal>
     requires { (h ≤ most_levels) × (length root.now ≡ digest_size) × ((j : ℕ) → j < h → get_or at j 0 + digest_size ≤ length tree.now) }
     ensures { answer_of result ≡ compared_of (take (h + 1) digests) (standing_of root.now tree.now (take h at)) }
 {
-    let top = digests[h];
-    if !stands(top, root, 0) {
-        return differs(h);
+    if !stands(digests[h], root, 0) {
+        return Err(differs(h));
     }
-    let mut left = h;
-    while 0 < left {
-        let k = left - 1;
-        let d = digests[k];
-        if !stands(d, tree, at[k]) {
-            return differs(k);
+    for k in (0..h).rev() {
+        if !stands(digests[k], tree, at[k]) {
+            return Err(differs(k));
         }
-        left -= 1;
     }
-    Answer::Taken
+    Ok(())
 }

@@ -7,10 +7,9 @@
 
 mod compare;
 
-ghost use Rattle.std.specs.Prelude.{◌≡◌, replicate};
-ghost use Rattle.octets.specs.Answer.{number_in};
-ghost use Rattle.digest.specs.Sha256.{digest_size};
-ghost use Rattle.tree.specs.Answer.{answer_of};
+ghost use Rattle.std.specs.Prelude.{◌≡◌, MatchResult};
+ghost use Rattle.tree.specs.Answer.{refusal_of, answer_of};
+ghost use Rattle.tree.specs.Acceptance.{InRange};
 ghost use Rattle.tree.specs.Build.{outcome_of, build_of};
 ghost use Rattle.tree.specs.Verify.{verify_of};
 
@@ -18,11 +17,9 @@ use digest::DIGEST_SIZE;
 pub use tree_path::places::length;
 use tree_path::{path, places};
 
-// How a call ends; specs/Answer.antt has the number and values of each (R71).
-#[derive(Clone, Copy)]
-pub enum Answer {
-    // Not refused: the tree is built, the block is accepted.
-    Taken,
+// Why a call is refused; specs/Answer.antt has the number and values of each (R71).
+#[derive(Clone, Copy, Debug, PartialEq, Eq)]
+pub enum Refusal {
     // 1: a loan's length.
     WrongLength,
     // 2: the count, the salt's length or the index.
@@ -33,60 +30,47 @@ pub enum Answer {
     LevelDiffers(usize),
 }
 
-// What building returns; the root digest is zeros where the answer is a refusal. (An enum can't hold an array, so it stands beside the answer.)
-#[derive(Clone, Copy)]
-pub struct Built {
-    pub answer: Answer,
-    pub root: [u8; DIGEST_SIZE],
-}
+// The number of a refusal, R71.
+impl From<Refusal> for u32 {
+    ghost from_gives = { λ r n. n ≡ (refusal_of r).number };
 
-// The number of an answer, R71; 0 where it is no refusal.
-pub fn number(a: Answer) -> u32
-    ensures { result ≡ number_in (answer_of a) }
-{
-    match a {
-        Answer::Taken => 0,
-        Answer::WrongLength => 1,
-        Answer::OutOfRange => 2,
-        Answer::DataDiffers => 12,
-        Answer::LevelDiffers(_) => 12,
+    fn from(r: Refusal) -> u32 {
+        match r {
+            Refusal::WrongLength => 1,
+            Refusal::OutOfRange => 2,
+            Refusal::DataDiffers | Refusal::LevelDiffers(_) => 12,
+        }
     }
 }
 
-// What building returns where it is refused.
-fn refused(a: Answer) -> Built
-    ensures { (result.answer ≡ a) × (result.root ≡ replicate digest_size 0) }
+// Whether the count and the salt's length are in range, which both calls ask.
+fn check_range(count: usize, salt: &[u8]) -> Result<(), Refusal>
+    ensures { MatchResult result (λ _. InRange count salt.now) (λ r. (r ≡ Refusal.OutOfRange) × ¬ (InRange count salt.now)) }
 {
-    Built {
-        answer: a,
-        root: [0u8; DIGEST_SIZE],
+    if (1..=places::MOST_BLOCKS).contains(&count) && salt.len() <= places::LONGEST_SALT {
+        Ok(())
+    } else {
+        Err(Refusal::OutOfRange)
     }
 }
 
 // Builds the tree over an image of count data blocks into the tree loan, and returns the root digest.
-pub fn build(count: usize, salt: &[u8], image: &[u8], tree: &mut [u8]) -> Built
+pub fn build(
+    count: usize,
+    salt: &[u8],
+    image: &[u8],
+    tree: &mut [u8],
+) -> Result<[u8; DIGEST_SIZE], Refusal>
     ensures { outcome_of result tree.new ≡ build_of count salt.now image.now tree.old }
 {
-    if count == 0 {
-        return refused(Answer::OutOfRange);
-    }
-    if places::MOST_BLOCKS < count {
-        return refused(Answer::OutOfRange);
-    }
-    if places::LONGEST_SALT < salt.len() {
-        return refused(Answer::OutOfRange);
-    }
+    check_range(count, salt)?;
     if image.len() != count * places::BLOCK_SIZE {
-        return refused(Answer::WrongLength);
+        return Err(Refusal::WrongLength);
     }
     if tree.len() != places::tree_length(count) {
-        return refused(Answer::WrongLength);
+        return Err(Refusal::WrongLength);
     }
-    let root = tree_levels::fill(tree, count, salt, image);
-    Built {
-        answer: Answer::Taken,
-        root: root,
-    }
+    Ok(tree_levels::fill(tree, count, salt, image))
 }
 
 // Verifies the data block with this index against the tree and the root digest.
@@ -97,29 +81,21 @@ pub fn verify(
     count: usize,
     salt: &[u8],
     root: &[u8],
-) -> Answer
+) -> Result<(), Refusal>
     ensures { answer_of result ≡ verify_of block.now index tree.now count salt.now root.now }
 {
     if block.len() != places::BLOCK_SIZE {
-        return Answer::WrongLength;
+        return Err(Refusal::WrongLength);
     }
     if root.len() != DIGEST_SIZE {
-        return Answer::WrongLength;
+        return Err(Refusal::WrongLength);
     }
-    if count == 0 {
-        return Answer::OutOfRange;
-    }
-    if places::MOST_BLOCKS < count {
-        return Answer::OutOfRange;
-    }
-    if places::LONGEST_SALT < salt.len() {
-        return Answer::OutOfRange;
-    }
+    check_range(count, salt)?;
     if count <= index {
-        return Answer::OutOfRange;
+        return Err(Refusal::OutOfRange);
     }
     if tree.len() != places::tree_length(count) {
-        return Answer::WrongLength;
+        return Err(Refusal::WrongLength);
     }
     let h = places::levels(count);
     let at = path::places(h, count, index);

@@ -1,67 +1,62 @@
 -- The loops that fill in a tree: over the digests of a level, and over the levels from the data up.
--- s is the salt, l the blocks below the level, t the tree at first, b the level's first byte.
+-- s is the salt, l the blocks below the level, v the level as far as it is filled in, t the tree at first.
 use Prim.Native.Nat.{ℕ, zero, suc, ◌+◌, ◌-◌, ◌*◌, ◌≤◌, ◌<◌}
-use native.Mathlib.Nat.{add-zero}
 use native.Mathlib.Numerals.{add-one}
 use native.Mathlib.Omega.{arith}
+use borrow.Rule.Slice.PartMut.{put_mid}
 use mathlib.Core.List.{List, [], ◌++◌, append-nil, append_assoc}
 use mathlib.Core.Path.{◌≡◌, refl, sym, ap, ◌∙◌}
-use lib.ListN.{length, take, drop, replicate, length-replicate, take-append-drop}
-use lib.Seq.{drop_at, drop-length, length-take-le}
+use lib.ListN.{length, take, drop, replicate, length-append, length-drop}
+use lib.Seq.{take_at, drop_at, drop-drop, drop-length, length-take-le, take-take}
+use Rattle.std.proofs.lemmas.List.{drop_all}
+use Rattle.std.proofs.lemmas.Slice.{take-put_mid}
 use Rattle.octets.specs.Parts.{part, patch}
-use Rattle.octets.proofs.Parts.{part-all, part-part, part-patch-same, part-patch-after, length-patch, patch-join}
-use Rattle.digest.specs.Sha256.Promise.{length-sha256}
+use Rattle.octets.proofs.Parts.{part-patch-same, length-patch}
 use Rattle.digest.specs.Sha256.{digest_size}
 use Rattle.tree_path.specs.Places.{block_size, parents_of, levels_of, hash_blocks_of, first_block_of, tree_length}
 use Rattle.tree_path.specs.Tree.{block_of, block_digest, digests_of, level_of, tree_of, root_of}
-use Rattle.tree_path.proofs.PlaceLaws.{top_of}
-use Rattle.tree_path.proofs.TreeLaws.{length-digests, length-level}
+use Rattle.tree_path.proofs.PlaceLaws.{top_of, level-next}
+use Rattle.tree_path.proofs.TreeLaws.{length-level}
 
--- ---- the digests of a level: r is the tree with the first i of them put in
+-- ---- the digests of a level
 
-pub level-start : (t : List ℕ) (b : ℕ) (s l : List ℕ) → t ≡ patch t b (digests_of 0 s l)
-unfolding digests_of
-level-start t b s l = sym (rw add-zero (take-append-drop b t))
+-- the first i digests are put in, and rest are the blocks behind those
+module _ (s l v rest : List ℕ) (i : ℕ) (left : rest ≡ drop (i * block_size) l) (put : take (i * digest_size) v ≡ digests_of i s l) where
+  -- the block p comes off the front of them
+  module _ (p after : List ℕ) (front : rest ≡ p ++ after) (size : length p ≡ block_size) where
+    pub turn-inside : (m : ℕ) → length l ≡ m * block_size → i + 1 ≤ m
+    turn-inside m e =
+        let n : length l - i * block_size ≡ block_size + length after = sym (length-drop (i * block_size) l) ∙ ap length (sym left ∙ front) ∙ length-append p after ∙ omega arith in
+        omega arith
 
-module _ (t r s l : List ℕ) (b i : ℕ) (reached : r ≡ patch t b (digests_of i s l)) where
-  -- what is put right behind the digests
-  put-behind : (x : List ℕ) → b + i * digest_size + length x ≤ length t → patch r (b + i * digest_size) x ≡ patch t b (digests_of i s l ++ x)
-  put-behind x fits =
-      let size : length (digests_of i s l) ≡ i * digest_size = length-digests i s l in
-      let e : b + i * digest_size ≡ b + length (digests_of i s l) = omega arith in
-      rw (reached, e) (patch-join t b (digests_of i s l) x (omega arith))
+    pub turn-rest : after ≡ drop ((i + 1) * block_size) l
+    turn-rest =
+        let n : i * block_size + block_size ≡ (i + 1) * block_size = omega arith in
+        sym (drop_at p after block_size size)
+        ∙ ap (drop block_size) (sym front ∙ left)
+        ∙ drop-drop block_size (i * block_size) l
+        ∙ ap (λ (k : ℕ). drop k l) n
 
-  -- the next digest, where the block p is block i of l
-  pub level-turn : (d p : List ℕ) → b + (i + 1) * digest_size ≤ length t → d ≡ block_digest s p → p ≡ block_of l i
-      → patch r (b + i * digest_size) (part d 0 digest_size) ≡ patch t b (digests_of (i + 1) s l)
-  unfolding digests_of
-  level-turn d p fits ed ep =
-      let e : d ≡ block_digest s (block_of l i) = ed ∙ ap (block_digest s) ep in
-      let size : length d ≡ digest_size = ap length e ∙ length-sha256 (s ++ block_of l i) in
-      rw (part-all d digest_size size, add-one i) (put-behind d (omega arith) ∙ ap (λ (x : List ℕ). patch t b (digests_of i s l ++ x)) e)
+    pub turn-digest : (d : List ℕ) (a k : ℕ) → a ≡ i * digest_size → d ≡ block_digest s p → length d ≡ digest_size → (i + 1) * digest_size ≤ length v
+        → take ((i + 1) * digest_size) (put_mid a k v d) ≡ digests_of (i + 1) s l
+    unfolding digests_of
+    turn-digest d a k ea ed size-d fits =
+        let b : p ≡ block_of l i = sym (ap (take block_size) (sym left ∙ front) ∙ take_at p after block_size size) in
+        rw (ea, take-put_mid (i * digest_size) k v d ((i + 1) * digest_size) (omega arith) (omega arith), put, ed, b, add-one i)
 
-  -- the zeros after the last of m digests
-  pub level-end : (m : ℕ) → i ≡ m → b + parents_of m * block_size ≤ length t
-      → patch r (b + m * digest_size) (replicate (parents_of m * block_size - m * digest_size) 0) ≡ patch t b (level_of s m l)
+  -- none comes
+  pub end-level : (z : List ℕ) (m a k : ℕ) → length rest < block_size → i ≤ m → length l ≡ m * block_size → length v ≡ parents_of m * block_size → a ≡ m * digest_size → k ≡ length v - a
+      → z ≡ replicate (length (take k (drop a v))) 0 → put_mid a k v z ≡ level_of s m l
   unfolding level_of
-  level-end m e fits = rw (← e) (put-behind (replicate (parents_of i * block_size - i * digest_size) 0) (rw length-replicate (omega arith)))
-
--- the block of the data that is read in a turn
-pub data-block : (l : List ℕ) (i : ℕ) → take (i * block_size + block_size - i * block_size) (drop (i * block_size) l) ≡ block_of l i
-data-block l i =
-    let e : i * block_size + block_size - i * block_size ≡ block_size = omega arith in
-    rw e
-
--- the hash block that is read in a turn lies behind what has been put in, and is as it was
-pub hash-block : (t r s : List ℕ) (b f m i : ℕ) → i < m → (f + m) * block_size ≤ length t → b + m * digest_size ≤ f * block_size
-    → r ≡ patch t b (digests_of i s (part t (f * block_size) (m * block_size)))
-    → take ((f + i) * block_size + block_size - (f + i) * block_size) (drop ((f + i) * block_size) r) ≡ block_of (part t (f * block_size) (m * block_size)) i
-hash-block t r s b f m i l h o er =
-    let e : (f + i) * block_size + block_size - (f + i) * block_size ≡ block_size = omega arith in
-    let g : (f + i) * block_size ≡ f * block_size + i * block_size = omega arith in
-    let size : length (digests_of i s (part t (f * block_size) (m * block_size))) ≡ i * digest_size = length-digests i s (part t (f * block_size) (m * block_size)) in
-    rw (e, er, part-patch-after t b (digests_of i s (part t (f * block_size) (m * block_size))) (omega arith) ((f + i) * block_size) block_size (omega arith), g)
-    (sym (part-part t (f * block_size) (m * block_size) (i * block_size) block_size (omega arith)))
+  end-level z m a k few im size-l size-v ea ek ez =
+      let n : length l - i * block_size ≡ length rest = sym (length-drop (i * block_size) l) ∙ ap length (sym left) in
+      let e : i ≡ m = omega arith in
+      let y : length (drop a v) ≡ k = length-drop a v ∙ sym ek in
+      let x : length (take k (drop a v)) ≡ k = length-take-le k (drop a v) (omega arith) in
+      let w : z ≡ replicate (parents_of m * block_size - m * digest_size) 0 = ez ∙ ap (λ (n : ℕ). replicate n 0) (x ∙ omega arith) in
+      let r : drop k (drop a v) ≡ [] = drop_all k (drop a v) (omega arith) in
+      let f : take a v ≡ digests_of m s l = rw (ea, ← e) put in
+      rw (f, r, w, append-nil)
 
 -- ---- the levels
 
@@ -100,6 +95,35 @@ module _ (h : ℕ) (s : List ℕ) (m first from : ℕ) (t d l root whole rest : 
     top = rw put-level top;
     all = all ∙ rw (put-level, put_rest) (append_assoc (tree_of h s (parents_of m) (level_of s m l)) (level_of s m l) rest);
   }
+
+-- the level above the data ends where the tree does, and a further level where the one below it begins
+pub ends : (h n first : ℕ) (t : List ℕ) → h ≡ levels_of n → 0 < h → first ≡ first_block_of (h - 1) n → length t ≡ tree_length n
+    → (first + parents_of n) * block_size ≡ length t
+ends h n first t eh p ef et =
+    let next : first + parents_of n ≡ hash_blocks_of (levels_of n) n =
+    ap (λ (x : ℕ). x + parents_of n) ef ∙ level-next h n p ∙ ap (λ (x : ℕ). hash_blocks_of x n) eh in
+    ap (λ (x : ℕ). x * block_size) next ∙ sym et
+
+pub joins : (h m first from : ℕ) → 0 < h → first ≡ first_block_of (h - 1) m → from ≡ hash_blocks_of h m → first + parents_of m ≡ from
+joins h m first from p ef e = ap (λ (x : ℕ). x + parents_of m) ef ∙ level-next h m p ∙ sym e
+
+-- all from byte a on
+pub length-rest : (t : List ℕ) (a : ℕ) → length (take (length t - a) (drop a t)) ≡ length t - a
+length-rest t a = length-take-le (length t - a) (drop a t) (rw length-drop (omega arith))
+
+-- what is written over the k bytes from byte a on is patched in
+pub written : (t : List ℕ) (a k : ℕ) (x y : List ℕ) → length x ≡ k → x ≡ y → put_mid a k t x ≡ patch t a y
+written t a k x y n e = rw (drop-drop k a t, ← n, e)
+
+-- likewise over the last bytes before byte f, at which the tree was split
+pub written-above : (t above below : List ℕ) (a f k : ℕ) (x y : List ℕ) → f ≤ length t → above ≡ take f t → below ≡ drop f t → k ≡ length above - a → a + length x ≡ f → x ≡ y
+    → put_mid a k above x ++ below ≡ patch t a y
+written-above t above below a f k x y fits ea eb ek n e =
+    let size : length above ≡ f = ap length ea ∙ length-take-le f t fits in
+    let front : take a above ≡ take a t = ap (take a) ea ∙ take-take a f t (omega arith) in
+    let none : drop k (drop a above) ≡ [] = drop_all k (drop a above) (rw length-drop (omega arith)) in
+    let rest : below ≡ drop (a + length x) t = eb ∙ ap (λ (j : ℕ). drop j t) (sym n) in
+    rw (front, none, append-nil, rest, append_assoc, e)
 
 -- the level above the data; h is all levels, and g those above that level
 pub reached-first : (h g : ℕ) (s : List ℕ) (n k first : ℕ) (t d l : List ℕ) → 0 < h → g ≡ h - 1 → k ≡ parents_of n → first ≡ first_block_of g n → top_of h n ≡ 1

@@ -123,18 +123,23 @@ blocks-few h m k l = omega (arith, few h m l)
     few zero m l = omega arith
     few (suc h) m l = omega (arith, few h (parents_of m) (omega arith))
 
--- the loop that counts them: left levels above below blocks are still to come
-pub blocks-turn : (left below k all x : ℕ) → 0 < left → k ≡ parents_of below → x ≡ hash_blocks_of left below + all → x ≡ hash_blocks_of (left - 1) k + (all + k)
-unfolding hash_blocks_of
-blocks-turn zero m k all x p e i = absurd (omega arith)
-blocks-turn (suc h) m k all x p e i =
-    let o : suc h - 1 ≡ h = omega arith in
-    rw (o, e) (omega arith)
+-- the loop that counts them: j of h levels are counted, and below blocks are reached
+pub blocks-start : (h m : ℕ) → hash_blocks_of h m ≡ hash_blocks_of (h - 0) m + 0
+blocks-start h m =
+    let z : h - 0 ≡ h = omega arith in
+    rw z (omega arith)
 
-pub blocks_end : (left below all x : ℕ) → left ≤ 0 → x ≡ hash_blocks_of left below + all → all ≡ x
+pub blocks-turn : (h j below k all x : ℕ) → j < h → k ≡ parents_of below → x ≡ hash_blocks_of (h - j) below + all → x ≡ hash_blocks_of (h - (j + 1)) k + (all + k)
 unfolding hash_blocks_of
-blocks_end zero m all x p i = omega arith
-blocks_end (suc h) m all x p i = absurd (omega arith)
+blocks-turn h j below k all x l e i =
+    let o : h - j ≡ suc (h - (j + 1)) = omega arith in
+    (rw o at i) ∙ rw e (omega arith)
+
+pub blocks_end : (h j below all x : ℕ) → h ≤ j → x ≡ hash_blocks_of (h - j) below + all → all ≡ x
+unfolding hash_blocks_of
+blocks_end h j below all x l i =
+    let z : h - j ≡ 0 = omega arith in
+    sym (rw z at i ∙ omega arith)
 
 -- a level ends where the one below it begins
 pub level-next : (h m : ℕ) → 0 < h → first_block_of (h - 1) m + parents_of m ≡ hash_blocks_of h m
@@ -198,18 +203,17 @@ module _ (ps t : List ℕ) (h m i : ℕ) (path : take h ps ≡ places_of h m i) 
   pub digest-in : (j : ℕ) → j < h → get_or ps j 0 + digest_size ≤ length t
   digest-in j k = rw (place_of j k, size) (places-in h m i j index k).1
 
--- ---- the length of the tree over any count, a return at a time
+-- ---- the length of the tree over any count
 
-module _ (n : ℕ) where
-  pub length_none : n ≡ 0 → 0 ≡ length_of n
-  unfolding length_of
-  length_none h = rw (eq-eqb n 0 h)
+pub length_none : (n : ℕ) → (n ≡ 0) ⊎ (most_blocks < n) → 0 ≡ length_of n
+unfolding length_of
+length_none n (inl a) = rw (eq-eqb n 0 a)
+length_none n (inr a) =
+    let some : n ≢ 0 = omega arith in
+    rw (ne_eqb n 0 some, lt-ltb most_blocks n a)
 
-  module _ (some : n ≢ 0) where
-    pub length-many : most_blocks < n → 0 ≡ length_of n
-    unfolding length_of
-    length-many h = rw (ne_eqb n 0 some, lt-ltb most_blocks n h)
-
-    pub length-of : {k : ℕ} → n ≤ most_blocks → k ≡ tree_length n → k ≡ length_of n
-    unfolding length_of
-    length-of h e = rw (ne_eqb n 0 some, le-ltb most_blocks n h) e
+pub length-of : (n : ℕ) {k : ℕ} → 1 ≤ n → n ≤ most_blocks → k ≡ tree_length n → k ≡ length_of n
+unfolding length_of
+length-of n l h e =
+    let some : n ≢ 0 = omega arith in
+    rw (ne_eqb n 0 some, le-ltb most_blocks n h) e

@@ -15,12 +15,10 @@ pub fn places(h: usize, m: usize, i: usize) -> [usize; places::MOST_DIGESTS]
     let mut r = [0usize; places::MOST_DIGESTS];
     let mut below = m;
     let mut at = i;
-    let mut j: usize = 0;
-    while j < h {
+    for j in 0..h {
         r[j] = places::digest_at(h - 1 - j, below, at);
         below = places::parents(below);
-        at = at / places::DIGESTS_PER_BLOCK;
-        j += 1;
+        at /= places::DIGESTS_PER_BLOCK;
     }
     r
 }
@@ -39,11 +37,9 @@ pub fn computed(
 {
     let mut r = [[0u8; DIGEST_SIZE]; places::MOST_DIGESTS];
     r[0] = block_digest(salt, block);
-    let mut j: usize = 0;
-    while j < h {
+    for j in 0..h {
         let from = at[j] / places::BLOCK_SIZE * places::BLOCK_SIZE;
         r[j + 1] = block_digest(salt, &tree[from..from + places::BLOCK_SIZE]);
-        j += 1;
     }
     r
 }

@@ -24,7 +24,7 @@ pub fn parents(m: usize) -> usize
     requires { m ≤ most_blocks }
     ensures { (result ≡ parents_of m) × (result ≤ m) }
 {
-    (m + (DIGESTS_PER_BLOCK - 1)) / DIGESTS_PER_BLOCK
+    m.div_ceil(DIGESTS_PER_BLOCK)
 }
 
 // Levels of the tree over n data blocks.
@@ -33,7 +33,7 @@ pub fn levels(n: usize) -> usize
     ensures { (result ≡ levels_of n) × (result ≤ most_levels) }
 {
     let mut m = n;
-    let mut h: usize = 0;
+    let mut h = 0;
     while 1 < m {
         m = parents(m);
         h += 1;
@@ -46,13 +46,11 @@ pub fn hash_blocks(h: usize, m: usize) -> usize
     requires { (h ≤ most_levels) × (m ≤ most_blocks) }
     ensures { (result ≡ hash_blocks_of h m) × (result ≤ most_levels * most_blocks) }
 {
-    let mut left = h;
     let mut below = m;
-    let mut all: usize = 0;
-    while 0 < left {
+    let mut all = 0;
+    for _ in 0..h {
         below = parents(below);
         all += below;
-        left -= 1;
     }
     all
 }
@@ -85,11 +83,9 @@ pub fn tree_length(n: usize) -> usize
 pub fn length(n: usize) -> usize
     ensures { result ≡ length_of n }
 {
-    if n == 0 {
-        return 0;
+    if (1..=MOST_BLOCKS).contains(&n) {
+        tree_length(n)
+    } else {
+        0
     }
-    if MOST_BLOCKS < n {
-        return 0;
-    }
-    tree_length(n)
 }

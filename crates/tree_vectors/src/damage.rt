@@ -16,8 +16,10 @@ const TREE: usize = 12288;
 
 pub(crate) fn answers<W: Write>(out: &mut W, image: &[u8], salts: &[u8]) -> io::Result<()> {
     let mut tree = [0u8; TREE];
-    let made = tree::build(COUNT, span(salts, 0, 8), span(image, 0, IMAGE), &mut tree);
-    let root = made.root;
+    let salt = span(salts, 0, 8);
+    let root = tree::build(COUNT, salt, span(image, 0, IMAGE), &mut tree).unwrap_or(
+        [0; DIGEST_SIZE],
+    );
     verifying(out, image, salts, &mut tree, &root)?;
     building(out, image, salts)?;
     one_block(out, span(image, 0, BLOCK_SIZE), salts)
@@ -80,8 +82,8 @@ fn counted<W: Write>(
 
 // s with the lowest bit of byte at inverted.
 fn flip(s: &mut [u8], at: usize) {
-    if at < s.len() {
-        s[at] = s[at] ^ 1;
+    if let Some(byte) = s.get_mut(at) {
+        *byte ^= 1;
     }
 }
 
@@ -134,8 +136,8 @@ fn digests<W: Write>(
 }
 
 fn copy(to: &mut [u8], from: &[u8]) {
-    if from.len() <= to.len() {
-        octets::copy_at(to, 0, from, 0, from.len());
+    if let Some(part) = to.get_mut(..from.len()) {
+        part.copy_from_slice(from);
     }
 }
 
@@ -263,9 +265,7 @@ fn built_in<W: Write>(
     tree: &mut [u8],
 ) -> io::Result<()> {
     out.write_all(name)?;
-    let made = tree::build(count, salt, image, tree);
-    let answer = made.answer;
-    report::answer(out, answer)
+    report::answer(out, tree::build(count, salt, image, tree).map(|_| ()))
 }
 
 // What building is lent.
@@ -339,8 +339,7 @@ fn one_verified<W: Write>(out: &mut W, only: &[u8], salts: &[u8], root: &[u8]) -
 
 // The root digest that is built with none of the tree's bytes lent.
 fn only_root(only: &[u8], salt: &[u8], tree: &mut [u8]) -> [u8; DIGEST_SIZE] {
-    let made = tree::build(1, salt, only, &mut tree[..0]);
-    made.root
+    tree::build(1, salt, only, &mut tree[..0]).unwrap_or([0; DIGEST_SIZE])
 }
 
 // The answer for the only data block.

@@ -42,23 +42,20 @@ fn lines<W: Write>(out: &mut W, image: &mut [u8]) -> io::Result<()> {
 }
 
 fn fill_image(s: &mut [u8]) {
-    for i in 0..s.len() {
-        s[i] = ((7 * (i % 256) + 13 * (i / BLOCK_SIZE % 256)) % 256) as u8;
+    for (i, byte) in s.iter_mut().enumerate() {
+        *byte = ((7 * (i % 256) + 13 * (i / BLOCK_SIZE % 256)) % 256) as u8;
     }
 }
 
 fn fill_salt(s: &mut [u8]) {
-    for i in 0..s.len() {
-        s[i] = ((31 * (i % 256) + 5) % 256) as u8;
+    for (i, byte) in s.iter_mut().enumerate() {
+        *byte = ((31 * (i % 256) + 5) % 256) as u8;
     }
 }
 
 // The bytes of s from index from up to index to; none where s is too short.
 pub(crate) fn span(s: &[u8], from: usize, to: usize) -> &[u8] {
-    if from <= to && to <= s.len() {
-        return &s[from..to];
-    }
-    &s[..0]
+    s.get(from..to).unwrap_or(&s[..0])
 }
 
 fn trees<W: Write>(out: &mut W, image: &[u8], salt: &[u8]) -> io::Result<()> {
@@ -83,9 +80,10 @@ fn salts<W: Write>(
     requires { (count ≤ 300) × (blocks ≤ 4) }
 {
     let all = span(image, 0, count * BLOCK_SIZE);
-    vector(out, all, span(salt, 0, 0), count, tree, blocks)?;
-    vector(out, all, span(salt, 0, 8), count, tree, blocks)?;
-    vector(out, all, span(salt, 0, 32), count, tree, blocks)
+    for size in [0, 8, 32] {
+        vector(out, all, span(salt, 0, size), count, tree, blocks)?;
+    }
+    Ok(())
 }
 
 // One tree, made in the first blocks of the loan.
@@ -97,13 +95,12 @@ fn vector<W: Write>(
     tree: &mut [u8],
     blocks: usize,
 ) -> io::Result<()>
-    requires { (count ≤ 300) × (blocks ≤ 4) }
+    requires { blocks ≤ 4 }
 {
-    let size = blocks * BLOCK_SIZE;
-    if tree.len() < size {
-        return Ok(());
+    match tree.get_mut(..blocks * BLOCK_SIZE) {
+        Some(part) => line(out, image, salt, count, part),
+        None => Ok(()),
     }
-    line(out, image, salt, count, &mut tree[..size])
 }
 
 fn line<W: Write>(
@@ -112,19 +109,14 @@ fn line<W: Write>(
     salt: &[u8],
     count: usize,
     tree: &mut [u8],
-) -> io::Result<()>
-    requires { count ≤ 300 }
-{
-    let made = tree::build(count, salt, image, tree);
-    report::number(out, b"count ", count)?;
-    report::number(out, b" salt ", salt.len())?;
-    out.write_all(b" root ")?;
-    hexadecimal::print(out, &made.root)?;
+) -> io::Result<()> {
+    let root = tree::build(count, salt, image, tree).unwrap_or([0; DIGEST_SIZE]);
+    write!(out, "count {count} salt {} root ", salt.len())?;
+    hexadecimal::print(out, &root)?;
     out.write_all(b" tree ")?;
     hexadecimal::print(out, &digest_of(tree))?;
-    let n = accepted(image, salt, count, tree, made.root);
-    report::number(out, b" accepted ", n)?;
-    out.write_all(b"\n")
+    let accepted = accepted(image, salt, count, tree, &root);
+    writeln!(out, " accepted {accepted}")
 }
 
 fn digest_of(s: &[u8]) -> [u8; DIGEST_SIZE] {
@@ -133,31 +125,10 @@ fn digest_of(s: &[u8]) -> [u8; DIGEST_SIZE] {
 }
 
 // How many blocks of the image are accepted at their own index.
-fn accepted(image: &[u8], salt: &[u8], count: usize, tree: &[u8], root: [u8; DIGEST_SIZE]) -> usize
-    requires { count ≤ 300 }
-{
-    let mut n: usize = 0;
-    for i in 0..count {
-        let at = i * BLOCK_SIZE;
-        n += accepts(span(image, at, at + BLOCK_SIZE), i, tree, count, salt, root);
-    }
-    n
-}
-
-// 1 where the block is accepted, else 0.
-fn accepts(
-    block: &[u8],
-    index: usize,
-    tree: &[u8],
-    count: usize,
-    salt: &[u8],
-    root: [u8; DIGEST_SIZE],
-) -> usize
-    ensures { result ≤ 1 }
-{
-    if tree::number(tree::verify(block, index, tree, count, salt, &root)) == 0 {
-        1
-    } else {
-        0
-    }
+fn accepted(image: &[u8], salt: &[u8], count: usize, tree: &[u8], root: &[u8]) -> usize {
+    image
+        .chunks_exact(BLOCK_SIZE)
+        .enumerate()
+        .filter(|(i, block)| tree::verify(block, *i, tree, count, salt, root).is_ok())
+        .count()
 }

@@ -1,20 +1,14 @@
 // What the lines are made of.
 use std::io::{self, Write};
-use tree::Answer;
+use tree::Refusal;
 
-// A text, then a number in decimal.
-pub(crate) fn number<W: Write>(out: &mut W, text: &[u8], n: usize) -> io::Result<()> {
-    out.write_all(text)?;
-    write!(out, "{n}")
-}
-
-// An answer's number (R71), for 12 the level, and the end of the line.
-pub(crate) fn answer<W: Write>(out: &mut W, a: Answer) -> io::Result<()> {
-    number(out, b": ", tree::number(a) as usize)?;
-    match a {
-        Answer::Taken | Answer::WrongLength | Answer::OutOfRange => (),
-        Answer::DataDiffers => out.write_all(b" level -1")?,
-        Answer::LevelDiffers(l) => number(out, b" level ", l)?,
+// The number (R71) that a call answers, for 12 the level, and the end of the line.
+pub(crate) fn answer<W: Write>(out: &mut W, answer: Result<(), Refusal>) -> io::Result<()> {
+    write!(out, ": {}", answer.map_or_else(u32::from, |()| 0))?;
+    match answer {
+        Err(Refusal::DataDiffers) => out.write_all(b" level -1")?,
+        Err(Refusal::LevelDiffers(l)) => write!(out, " level {l}")?,
+        _ => (),
     }
     out.write_all(b"\n")
 }

@@ -20,40 +20,40 @@ returns-then-not-stands c =
     let e = sym (ap (same (get_or a.digests a.h [])) whole) ∙ sym c.stands.ensures ∙ c.if-not-stands.true in
     c.differs.ensures ∙ sym (top-differs a.h a.digests a.at a.tree.now a.root.now (omega arith) (omega arith) e)
 
-pub loop-left-init : goal.loop-left-init
-loop-left-init c =
+pub loop-k-init : goal.loop-k-init
+loop-k-init c =
     let a = c.args in
     let m : length a.digests ≡ most_levels + 1 = omega arith in
     let n : length a.at ≡ most_levels + 1 = omega arith in
     let whole = part-all a.root.now digest_size (omega arith) in
     let e = sym (ap (same (get_or a.digests a.h [])) whole) ∙ sym c.stands.ensures ∙ c.if-not-stands.false in
-    (omega arith, top-agrees a.h a.digests a.at a.tree.now a.root.now (omega arith) (omega arith) e)
+    top-agrees a.h a.digests a.at a.tree.now a.root.now (omega arith) (omega arith) e
 
-pub stands-requires-in-loop-left : goal.stands-requires-in-loop-left
-stands-requires-in-loop-left c = omega (arith, c.requires.2 (c.loop-left.left - 1) (omega arith))
+pub stands-requires-in-loop-k : goal.stands-requires-in-loop-k
+stands-requires-in-loop-k c = omega (arith, c.requires.2 (c.loop-k.k - 1) (omega arith))
 
 pub returns-then-not-stands-2 : goal.returns-then-not-stands-2
 returns-then-not-stands-2 c =
     let a = c.args in
-    let turn = c.loop-left in
+    let turn = c.loop-k in
     let m : length a.digests ≡ most_levels + 1 = omega arith in
     let n : length a.at ≡ most_levels + 1 = omega arith in
-    let e = sym c.stands-in-loop-left.ensures ∙ c.if-not-stands-2.true in
+    let e = sym c.stands-in-loop-k.ensures ∙ c.if-not-stands-2.true in
     c.differs-then-not-stands-2.ensures
-    ∙ sym (turn-differs a.h a.digests a.at a.tree.now a.root.now (omega arith) (omega arith) turn.left c.loop-left-test.true turn.invariant.0 turn.invariant.1 e)
+    ∙ sym (turn-differs a.h a.digests a.at a.tree.now a.root.now (omega arith) (omega arith) turn.k c.loop-k-test.true (omega arith) turn.invariant e)
 
-pub loop-left-preserved : goal.loop-left-preserved
-loop-left-preserved c =
+pub loop-k-preserved : goal.loop-k-preserved
+loop-k-preserved c =
     let a = c.args in
-    let turn = c.loop-left in
+    let turn = c.loop-k in
     let m : length a.digests ≡ most_levels + 1 = omega arith in
     let n : length a.at ≡ most_levels + 1 = omega arith in
-    let e = sym c.stands-in-loop-left.ensures ∙ c.if-not-stands-2.false in
-    (omega arith, turn-agrees a.h a.digests a.at a.tree.now a.root.now (omega arith) (omega arith) turn.left c.loop-left-test.true turn.invariant.0 turn.invariant.1 e)
+    let e = sym c.stands-in-loop-k.ensures ∙ c.if-not-stands-2.false in
+    turn-agrees a.h a.digests a.at a.tree.now a.root.now (omega arith) (omega arith) turn.k c.loop-k-test.true (omega arith) turn.invariant e
 
 pub returns : goal.returns
 unfolding path_rows
 returns c =
-    let turn = c.loop-left in
-    let z : turn.left ≡ 0 = omega arith in
-    sym (rw z at turn.invariant.1)
+    let turn = c.loop-k in
+    let z : turn.k ≡ 0 = omega arith in
+    sym (rw z at turn.invariant)

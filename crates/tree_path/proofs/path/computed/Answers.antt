@@ -11,7 +11,6 @@ use Rattle.tree_path.proofs.path.computed.Goals as goal
 pub loop-j-init : goal.loop-j-init
 loop-j-init c =
     let a = c.args in (
-      omega arith,
       refl,
       computed-start a.salt.now a.tree.now a.block.now a.at (replicate (most_levels + 1) (replicate digest_size 0)) c.block_digest.result (omega arith) c.block_digest.ensures.0,
       refl,
@@ -30,10 +29,9 @@ pub loop-j-preserved : goal.loop-j-preserved
 loop-j-preserved c =
     let turn = c.loop-j in
     let a = c.args in (
-      omega arith,
-      simp length-set turn.invariant.1,
-      computed-turn a.salt.now a.tree.now a.block.now a.at turn.r c.block_digest-in-loop-j.result turn.j (omega arith) (omega arith) c.block_digest-in-loop-j.ensures.0 turn.invariant.2,
-      rest-turn (replicate digest_size 0) c.block_digest-in-loop-j.result turn.r (most_levels + 1) (turn.j + 1) (omega arith) turn.invariant.3,
+      simp length-set turn.invariant.0,
+      computed-turn a.salt.now a.tree.now a.block.now a.at turn.r c.block_digest-in-loop-j.result turn.j (omega arith) (omega arith) c.block_digest-in-loop-j.ensures.0 turn.invariant.1,
+      rest-turn (replicate digest_size 0) c.block_digest-in-loop-j.result turn.r (most_levels + 1) (turn.j + 1) (omega arith) turn.invariant.2,
     )
 
 pub returns : goal.returns
@@ -41,4 +39,4 @@ returns c =
     let turn = c.loop-j in
     let h = c.args.h in
     let e : turn.j ≡ h = omega arith in
-    rest_end (replicate digest_size 0) turn.r _ (most_levels + 1) (h + 1) (most_levels - h) (omega arith) (rw e at turn.invariant.2) (rw e at turn.invariant.3)
+    rest_end (replicate digest_size 0) turn.r _ (most_levels + 1) (h + 1) (most_levels - h) (omega arith) (rw e at turn.invariant.1) (rw e at turn.invariant.2)

@@ -8,7 +8,7 @@ use Rattle.tree_path.proofs.PlaceLaws.{places-start, places-turn, places-end}
 use Rattle.tree_path.proofs.path.places.Goals as goal
 
 pub loop-j-init : goal.loop-j-init
-loop-j-init c = (omega arith, omega arith, omega arith, refl, places-start c.args.h c.args.m c.args.i, refl)
+loop-j-init c = (omega arith, omega arith, refl, places-start c.args.h c.args.m c.args.i, refl)
 
 pub loop-j-preserved : goal.loop-j-preserved
 loop-j-preserved c =
@@ -16,10 +16,9 @@ loop-j-preserved c =
     let a = c.args in (
       omega arith,
       omega arith,
-      omega arith,
-      simp length-set turn.invariant.3,
-      places-turn _ turn.r a.h turn.j turn.below turn.at c.digest_at.result c.parents-below.result c.loop-j-test.true (omega arith) c.digest_at.ensures c.parents-below.ensures.0 turn.invariant.4,
-      rest-turn 0 c.digest_at.result turn.r (most_levels + 1) turn.j (omega arith) turn.invariant.5,
+      simp length-set turn.invariant.2,
+      places-turn _ turn.r a.h turn.j turn.below turn.at c.digest_at.result c.parents-below.result c.loop-j-test.true (omega arith) c.digest_at.ensures c.parents-below.ensures.0 turn.invariant.3,
+      rest-turn 0 c.digest_at.result turn.r (most_levels + 1) turn.j (omega arith) turn.invariant.4,
     )
 
 pub returns : goal.returns
@@ -27,4 +26,4 @@ returns c =
     let turn = c.loop-j in
     let h = c.args.h in
     let e : turn.j ≡ h = omega arith in
-    rest_end 0 turn.r _ (most_levels + 1) h _ refl (places-end _ turn.r _ turn.j turn.below turn.at (omega arith) (omega arith) turn.invariant.4) (rw e at turn.invariant.5)
+    rest_end 0 turn.r _ (most_levels + 1) h _ refl (places-end _ turn.r _ turn.j turn.below turn.at (omega arith) (omega arith) turn.invariant.3) (rw e at turn.invariant.4)

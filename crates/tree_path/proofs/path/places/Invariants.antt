@@ -8,8 +8,5 @@ use Rattle.tree_path.proofs.path.places.Given as goal
 
 abbrev pub invariant-loop-j : goal.invariant-loop-j
 invariant-loop-j l =
-    (l.j ≤ l.h) × (l.below ≤ most_blocks) × (l.at < l.below) × (length l.r ≡ most_levels + 1) × (places_of l.h l.m l.i ≡ take l.j l.r ++ places_of (l.h - l.j) l.below l.at)
+    (l.below ≤ most_blocks) × (l.at < l.below) × (length l.r ≡ most_levels + 1) × (places_of l.h l.m l.i ≡ take l.j l.r ++ places_of (l.h - l.j) l.below l.at)
     × (drop l.j l.r ≡ replicate (most_levels + 1 - l.j) 0)
-
-abbrev pub decreases-loop-j : goal.decreases-loop-j
-decreases-loop-j l = l.h - l.j
