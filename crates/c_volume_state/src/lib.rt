@@ -3,8 +3,8 @@
 // A state is thirteen numbers of 8 bytes each, little-endian: the layout's eight, of which the last three have no meaning yet and are 0, which phase, the
 // two of its place, the count, the id.
 //
-// These are functions for crate c_replies and the volume's calls on buffers. The calls test a buffer's length once; so a function here may have a
-// `requires`, and every caller shows it.
+// These are functions for crate c_replies and the volume's calls on buffers. A buffer's length is tested once, by `decode` or by the call; so a function
+// that writes may have a `requires`, and every caller shows it.
 #![tactic(auto)]
 
 ghost use Rattle.std.specs.Prelude.{◌≡◌, ◌≤◌, length};
