@@ -9,8 +9,6 @@ use lib.Dec.{eqb}
 use lib.ListN.{length, get_or}
 use lib.Seq.{take_all}
 use borrow.Author.Tests.{eqb-true, eq-eqb, not-false}
-use Rattle.std.proofs.Common.{Option, Some, None}
-use Rattle.octets.specs.Choice.{pick}
 use Rattle.octets.specs.Numbers.{Bytes, value}
 use Rattle.octets.proofs.Numbers.{value-le}
 use Rattle.model.specs.declared.Phase.{Phase}
@@ -20,7 +18,7 @@ use Rattle.c_numbers.specs.Numbers.{numbers_in, number_bytes, number_at}
 use Rattle.c_numbers.specs.Sizes.{volume_state_size}
 use Rattle.c_volume_state.specs.declared.PhaseNumbers.{PhaseNumbers}
 use Rattle.c_volume_state.specs.Theorems.{DecodeEncode, EncodeBytes, EncodeDecode, DecodeState}
-use Rattle.c_volume_state.specs.VolumeState.{phase_numbers_of, phase_of, are_numbers, is_phase, layout_numbers_of, layout_of, state_numbers_of, encode_of, decode_of, unused_are_zero, encodes_state, state_in, IsState}
+use Rattle.c_volume_state.specs.VolumeState.{phase_numbers_of, phase_of, are_numbers, is_phase, layout_numbers_of, layout_of, state_numbers_of, encode_of, decode_of, unused_are_zero, encodes_state, IsState}
 use Rattle.c_numbers.proofs.NumberBytes.{length-number-bytes, bytes-number-bytes, number-at, bytes-of-numbers, number-below}
 
 both : (a b : Bool) → a && b ≡ true → (a ≡ true) × (b ≡ true)
@@ -196,22 +194,6 @@ decode-state b h e =
     }
 
 -- ---- as the calls cite it
-
--- x is what the code read
-module _ (b : List ℕ) {x : Option State} (ex : x ≡ state_in b) where
-  pub read-some : {s : State} → x ≡ Some s → (encodes_state b ≡ true) × (s ≡ decode_of b)
-  read-some {s} h = go (encodes_state b) (sym h ∙ ex)
-    where
-      go : (t : Bool) → Some s ≡ pick t (Some (decode_of b)) None → (t ≡ true) × (s ≡ decode_of b)
-      go true e = (refl, cc)
-      go false e = absurd cc
-
-  pub read-none : x ≡ None → encodes_state b ≡ false
-  read-none h = go (encodes_state b) (sym h ∙ ex)
-    where
-      go : (t : Bool) → None ≡ pick t (Some (decode_of b)) None → t ≡ false
-      go true e = absurd cc
-      go false e = refl
 
 pub state-kept : (b : List ℕ) → Bytes b → not (encodes_state b) ≡ false → encode_of (decode_of b) ≡ b
 state-kept b h e = encode-decode b h (not-false (encodes_state b) e)

@@ -7,7 +7,7 @@
 // that writes may have a `requires`, and every caller shows it.
 #![tactic(auto)]
 
-ghost use Rattle.std.specs.Prelude.{◌≡◌, ◌≤◌, length};
+ghost use Rattle.std.specs.Prelude.{◌≡◌, ◌≤◌, length, OnSome};
 ghost use Rattle.octets.specs.Choice.{pick};
 ghost use Rattle.octets.specs.Parts.{patch};
 ghost use Rattle.c_numbers.specs.Sizes.{layout_size, volume_state_size};
@@ -133,7 +133,8 @@ fn layout_of(buffer: &[u8]) -> Layout
 // The state that a buffer holds, if it holds one.
 #[tactic(auto, unfolding(crate::specs::VolumeState::encodes_state, crate::specs::VolumeState::decode_of))]
 pub fn decode(buffer: &[u8]) -> Option<State>
-    ensures { result ≡ state_in buffer.now }
+    ensures read { result ≡ state_in buffer.now }
+    ensures size { OnSome result (length buffer.now ≡ volume_state_size) }
 {
     if buffer.len() != volume_state_size() || !unused_are_zero(buffer) {
         return None;
