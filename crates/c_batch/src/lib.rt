@@ -8,11 +8,12 @@ ghost use Rattle.std.specs.Prelude.{◌≡◌};
 ghost use Rattle.c_batch.specs.Batch.{write_call, flush_call};
 
 use c_numbers::{answer_size, refuse, wrong_length};
-use c_replies::{flush_reply, put_reply, write_reply};
-use c_volume_state::{decode, encode, encodes_state};
+use c_replies::{flush_reply, plain_reply, put_reply};
+use c_volume_state::{decode, encode};
 
 // Adds a sector's bytes to the batch in staging. Refused where the answer's buffer has a wrong length, where the state's buffer holds no
 // state, or as writing is.
+#[tactic(auto, unfolding(crate::specs::Batch::write_call, c_numbers::specs::Called::called))]
 pub fn write(
     state: &mut [u8],
     staging: &mut [u8],
@@ -26,17 +27,16 @@ pub fn write(
     if answer.len() != answer_size() {
         return wrong_length();
     }
-    if !encodes_state(state) {
+    let Some(mut s) = decode(state) else {
         return refuse(answer);
-    }
-    let written = volume::write::write(decode(state), staging, sector, bytes);
-    let next = written.state;
-    encode(next, state);
-    let said = written.answer;
-    put_reply(write_reply(said), answer)
+    };
+    let said = volume::write::write(&mut s, staging, sector, bytes);
+    encode(s, state);
+    put_reply(plain_reply(said), answer)
 }
 
 // Begins to commit the batch, or acknowledges an empty one. Refused likewise.
+#[tactic(auto, unfolding(crate::specs::Batch::flush_call, c_numbers::specs::Called::called))]
 pub fn flush(state: &mut [u8], answer: &mut [u8]) -> u32
     ensures { record { number = result; left = state.new; answer = answer.new }
         ≡ flush_call state.old answer.old }
@@ -44,12 +44,10 @@ pub fn flush(state: &mut [u8], answer: &mut [u8]) -> u32
     if answer.len() != answer_size() {
         return wrong_length();
     }
-    if !encodes_state(state) {
+    let Some(mut s) = decode(state) else {
         return refuse(answer);
-    }
-    let flushed = volume::flush::flush(decode(state));
-    let next = flushed.state;
-    encode(next, state);
-    let said = flushed.answer;
+    };
+    let said = volume::flush::flush(&mut s);
+    encode(s, state);
     put_reply(flush_reply(said), answer)
 }

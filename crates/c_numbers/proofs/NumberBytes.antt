@@ -5,6 +5,8 @@ use mathlib.Core.List.{List, [], ◌∷◌, ◌++◌, append_assoc, append-nil}
 use mathlib.Core.Path.{◌≡◌, refl, sym, ap, ◌∙◌}
 use lib.ListN.{length, get_or, take, length-append}
 use lib.Seq.{take-suc, take_at, take-add}
+use Rattle.std.proofs.Common.{add-zero}
+use Rattle.std.proofs.lemmas.List.{length-take-le, take-append-drop, take_more}
 use Rattle.octets.specs.Numbers.{Bytes, le, value}
 use Rattle.octets.specs.Parts.{part, patch}
 use Rattle.octets.proofs.Numbers.{bytes-nil, length-le, bytes_le, value-le, le-value, value-bound}
@@ -105,20 +107,16 @@ more-written l c d at i ms ns ei fits ec ed =
     let place : i ≡ at + length (number_bytes 8 ms) = omega arith in
     rw (ed, ec, place, patch-join l at (number_bytes 8 ms) (number_bytes 8 ns) (omega arith), number-bytes-append 8 ms ns)
 
-one_number : (l c : List ℕ) (at n : ℕ) → c ≡ patch l at (le 8 n) → c ≡ patch l at (number_bytes 8 (n ∷ []))
+-- numbers written one after the other: before the first, and number j of ns behind those before it
+pub none-written : (l : List ℕ) (at : ℕ) → l ≡ patch l at (number_bytes 8 [])
 unfolding number_bytes
-one_number l c at n e = e ∙ ap (patch l at) (sym (append-nil (le 8 n)))
+none-written l at = rw add-zero (sym (take-append-drop at l))
 
-module _ (l : List ℕ) (at a b c : ℕ) where
-  pub three-written : at + 24 ≤ length l → (l1 l2 l3 : List ℕ) → l1 ≡ patch l at (le 8 a) → l2 ≡ patch l1 (at + 8) (le 8 b)
-      → l3 ≡ patch l2 (at + 16) (le 8 c) → l3 ≡ patch l at (number_bytes 8 (a ∷ b ∷ c ∷ []))
-  three-written fits l1 l2 l3 e1 e2 e3 =
-      let p1 = one_number l l1 at a e1 in
-      let p2 = more-written l l1 l2 at (at + 8) (a ∷ []) (b ∷ []) (omega arith) (omega arith) p1 (one_number l1 l2 (at + 8) b e2) in
-      more-written l l2 l3 at (at + 16) (a ∷ b ∷ []) (c ∷ []) (omega arith) (omega arith) p2 (one_number l2 l3 (at + 16) c e3)
-
-  pub five-written : (d e : ℕ) → at + 40 ≤ length l → (l3 l4 l5 : List ℕ) → l3 ≡ patch l at (number_bytes 8 (a ∷ b ∷ c ∷ [])) → l4 ≡ patch l3 (at + 24) (le 8 d)
-      → l5 ≡ patch l4 (at + 32) (le 8 e) → l5 ≡ patch l at (number_bytes 8 (a ∷ b ∷ c ∷ d ∷ e ∷ []))
-  five-written d e fits l3 l4 l5 e3 e4 e5 =
-      let p4 = more-written l l3 l4 at (at + 24) (a ∷ b ∷ c ∷ []) (d ∷ []) (omega arith) (omega arith) e3 (one_number l3 l4 (at + 24) d e4) in
-      more-written l l4 l5 at (at + 32) (a ∷ b ∷ c ∷ d ∷ []) (e ∷ []) (omega arith) (omega arith) p4 (one_number l4 l5 (at + 32) e e5)
+pub next-written : (l c d : List ℕ) (k j : ℕ) (ns : List ℕ) → 8 * (k + length ns) ≤ length l → j < length ns → c ≡ patch l (8 * k) (number_bytes 8 (take j ns))
+    → d ≡ patch c (8 * (k + j)) (le 8 (get_or ns j 0)) → d ≡ patch l (8 * k) (number_bytes 8 (take (j + 1) ns))
+unfolding number_bytes
+next-written l c d k j ns fits here ec ed =
+    let front : length (take j ns) ≡ j = length-take-le j ns (omega arith) in
+    let last : d ≡ patch c (8 * (k + j)) (number_bytes 8 (get_or ns j 0 ∷ [])) = ed ∙ ap (patch c (8 * (k + j))) (sym (append-nil (le 8 (get_or ns j 0)))) in
+    rw (take_more ns j 0 here)
+    (more-written l c d (8 * k) (8 * (k + j)) (take j ns) (get_or ns j 0 ∷ []) (omega arith) (omega arith) ec last)

@@ -13,10 +13,10 @@ use Rattle.c_numbers.specs.Outcome.{done, refused_with, answering}
 -- ---- the row of a length l that is to be k; z is k as the code has it
 
 module _ {l k z : ℕ} (ez : z ≡ k) where
-  pub length-differs : l ≢ z → differs l k ≡ true
+  length-differs : l ≢ z → differs l k ≡ true
   length-differs h = rw (ne_eqb l k (λ e. h (e ∙ sym ez)))
 
-  pub length-agrees : l ≡ z → differs l k ≡ false
+  length-agrees : l ≡ z → differs l k ≡ false
   length-agrees h = rw (eq-eqb l k (h ∙ ez))
 
   module _ {A : Type 0} (x y : A) where

@@ -5,8 +5,10 @@
 -- called a bad before made  : what a call leaves that was lent the answer's buffer a, and other buffers that held `before`. Where a has a wrong length it is
 --                             refused, and nothing is written; where the call found another buffer bad, it is refused with the same number, and
 --                             says so; else `made` is what it leaves
+-- CalledRows A              : the rows of `called`, each for itself: a call writes nothing where the answer's buffer has a wrong length, five zeros there alone
+--                             where it found another buffer bad, and is made where both have passed
 -- Keeps c before            : where a call that leaves c is refused, its other buffers hold `before`, as they did. (R70)
-use Rattle.std.specs.Prelude.{ℕ, Bool, List, [], ◌∷◌, ◌≢◌, ◌≡◌, length}
+use Rattle.std.specs.Prelude.{ℕ, Bool, true, false, List, [], ◌∷◌, ◌≢◌, ◌≡◌, length}
 use Rattle.octets.specs.Choice.{first_met, differs}
 use Rattle.c_numbers.specs.Numbers.{number_bytes}
 use Rattle.c_numbers.specs.Sizes.{answer_size}
@@ -32,3 +34,11 @@ called a bad before made =
 
 abbrev pub Keeps : {A : Type 0} → Called A → A → Type 0
 Keeps c before = c.number ≢ done → c.left ≡ before
+
+-- the proof is in proofs/Calls
+pub record CalledRows (A : Type 0) : Type 0 where
+  pub wrong : (a : List ℕ) (bad : Bool) (before : A) (made : Called A) → length a ≢ answer_size
+      → called a bad before made ≡ record { number = wrong_length; left = before; answer = a }
+  pub refused : (a : List ℕ) (before : A) (made : Called A) → length a ≡ answer_size
+      → called a true before made ≡ record { number = wrong_length; left = before; answer = no_values }
+  pub made : (a : List ℕ) (before : A) (made : Called A) → length a ≡ answer_size → called a false before made ≡ made

@@ -6,7 +6,7 @@
 // buffer's length once; so a function here may have a `requires`, and every caller shows it.
 #![tactic(auto)]
 
-ghost use Rattle.std.specs.Prelude.{◌≡◌, [], ◌∷◌, ◌+◌, ◌*◌, ◌≤◌, length};
+ghost use Rattle.std.specs.Prelude.{◌≡◌, ◌+◌, ◌*◌, ◌≤◌, length};
 ghost use Rattle.octets.specs.Parts.{patch};
 ghost use Rattle.digest.specs.Sha256.{digest_size};
 ghost use Rattle.c_numbers.specs.Numbers.{number_bytes, number_at};
@@ -101,24 +101,14 @@ pub fn number_at(buffer: &[u8], k: usize) -> u64
     octets::number(buffer, NUMBER_SIZE * k, NUMBER_SIZE)
 }
 
-// Writes three numbers from number k on.
-pub fn put_three(buffer: &mut [u8], k: usize, a: u64, b: u64, c: u64)
-    requires { 8 * k + 24 ≤ length buffer.old }
-    ensures { buffer.new ≡ patch buffer.old (8 * k) (number_bytes 8 (a ∷ b ∷ c ∷ [])) }
+// Writes numbers one behind the other, from number k on.
+pub fn put_numbers(buffer: &mut [u8], k: usize, numbers: &[u64])
+    requires { 8 * (k + length numbers.now) ≤ length buffer.old }
+    ensures { buffer.new ≡ patch buffer.old (8 * k) (number_bytes 8 numbers.now) }
 {
-    octets::put_number(buffer, NUMBER_SIZE * k, NUMBER_SIZE, a);
-    octets::put_number(buffer, NUMBER_SIZE * k + 8, NUMBER_SIZE, b);
-    octets::put_number(buffer, NUMBER_SIZE * k + 16, NUMBER_SIZE, c);
-}
-
-// Writes five numbers from number k on.
-pub fn put_five(buffer: &mut [u8], k: usize, a: u64, b: u64, c: u64, d: u64, e: u64)
-    requires { 8 * k + 40 ≤ length buffer.old }
-    ensures { buffer.new ≡ patch buffer.old (8 * k) (number_bytes 8 (a ∷ b ∷ c ∷ d ∷ e ∷ [])) }
-{
-    put_three(buffer, k, a, b, c);
-    octets::put_number(buffer, NUMBER_SIZE * k + 24, NUMBER_SIZE, d);
-    octets::put_number(buffer, NUMBER_SIZE * k + 32, NUMBER_SIZE, e);
+    for (j, n) in numbers.iter().enumerate() {
+        octets::put_number(buffer, NUMBER_SIZE * (k + j), NUMBER_SIZE, *n);
+    }
 }
 
 // Refuses a volume's call that found a buffer bad: writes the answer's numbers, and gives the number that the call answers.
@@ -126,6 +116,6 @@ pub fn refuse(answer: &mut [u8]) -> u32
     requires { length answer.old ≡ answer_size }
     ensures { (result ≡ wrong_length) × (answer.new ≡ no_values) }
 {
-    put_five(answer, 0, 0, 0, 0, 0, 0);
+    put_numbers(answer, 0, &[0; 5]);
     wrong_length()
 }

@@ -1,3 +1,2 @@
--- The theorem is in Refusals; Calls is what the proof of the function, and of the one with a key, cites.
+-- The theorem, whose lemmas the calls with a key cite too.
 pub mod Refusals
-pub mod Calls

@@ -7,11 +7,12 @@ ghost use Rattle.std.specs.Prelude.{◌≡◌};
 ghost use Rattle.c_read.specs.Reads.{read_call, verify_call};
 
 use c_numbers::{answer_size, refuse, wrong_length};
-use c_replies::{put_reply, read_reply, verify_reply};
-use c_volume_state::{decode, encodes_state};
+use c_replies::{plain_reply, put_reply};
+use c_volume_state::decode;
 
 // Reads a sector's bytes into a buffer. Refused where the answer's buffer has a wrong length, where the state's buffer holds no state, or as
 // reading is.
+#[tactic(auto, unfolding(crate::specs::Reads::read_call, c_numbers::specs::Called::called))]
 pub fn read(
     state: &[u8],
     v: &[u8],
@@ -26,14 +27,15 @@ pub fn read(
     if answer.len() != answer_size() {
         return wrong_length();
     }
-    if !encodes_state(state) {
+    let Some(s) = decode(state) else {
         return refuse(answer);
-    }
-    let said = volume::read::read(decode(state), v, staging, sector, bytes);
-    put_reply(read_reply(said), answer)
+    };
+    let said = volume::read::read(s, v, staging, sector, bytes);
+    put_reply(plain_reply(said), answer)
 }
 
 // Verifies so many sectors. Refused where the answer's buffer has a wrong length, where the state's buffer holds no state, or as verifying is.
+#[tactic(auto, unfolding(crate::specs::Reads::verify_call, c_numbers::specs::Called::called))]
 pub fn verify(state: &[u8], v: &[u8], first: usize, count: usize, answer: &mut [u8]) -> u32
     ensures { record { number = result; left = tt; answer = answer.new }
         ≡ verify_call state.now v.now first count answer.old }
@@ -41,9 +43,9 @@ pub fn verify(state: &[u8], v: &[u8], first: usize, count: usize, answer: &mut [
     if answer.len() != answer_size() {
         return wrong_length();
     }
-    if !encodes_state(state) {
+    let Some(s) = decode(state) else {
         return refuse(answer);
-    }
-    let said = volume::verify::verify(decode(state), v, first, count);
-    put_reply(verify_reply(said), answer)
+    };
+    let said = volume::verify::verify(s, v, first, count);
+    put_reply(plain_reply(said), answer)
 }

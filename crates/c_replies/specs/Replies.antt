@@ -8,6 +8,7 @@
 -- done_reply a b c d e       : the reply of a call that was carried out, with these five numbers
 -- refused_reply r            : the reply of a call that was refused with r: how many values are also returned, then these
 -- with_counts r n k          : the reply r with n and k as its fourth and fifth number
+-- number_reply a             : the reply to the answer a of a call that gives one number
 -- plain_reply a              : the reply to the answer a of format, write, read or verify, which give nothing beside it
 -- flush_reply a, ..          : the reply to the answer a of the call of that name
 -- did_of d                   : what a step did, as a number: 0 where it did nothing, 1 where it stored a sector
@@ -16,11 +17,9 @@
 -- says_of x                  : what a step says, as bits
 -- opened_bytes a s           : what the state's buffer s holds where open gave the answer a
 -- held_bytes a l             : what the layout's buffer l holds where query gave the answer a
-use Rattle.std.specs.Prelude.{ℕ, Bool, List, [], ◌∷◌, length, get_or}
+use Rattle.std.specs.Prelude.{Option, Some, None, ℕ, Bool, List, [], ◌∷◌, ◌++◌, length, get_or, take}
 use Rattle.octets.specs.Answer.{Refusal, Answer, taken, refused}
 use Rattle.octets.specs.Choice.{pick}
-use Rattle.model.specs.declared.Done.{Done}
-use Rattle.model.specs.declared.Done.TheVariants.{Idle, Stored}
 use Rattle.on_disk.specs.declared.Layout.{Layout}
 use Rattle.model.specs.declared.Says.{Says}
 use Rattle.model.specs.declared.Says.TheVariants as saying
@@ -32,28 +31,23 @@ use Rattle.c_numbers.specs.Numbers.{number_bytes}
 use Rattle.c_volume_state.specs.VolumeState.{layout_bytes_of, encode_of}
 
 unfoldable pub answer_bytes_of : Reply → List ℕ
-answer_bytes_of r = number_bytes 8 (r.first ∷ r.second ∷ r.third ∷ r.fourth ∷ r.fifth ∷ [])
+answer_bytes_of r = number_bytes 8 r.answer
 
 abbrev pub replying : {A : Type 0} → Reply → A → Called A
 replying r after = record { number = r.number; left = after; answer = answer_bytes_of r }
 
 abbrev pub done_reply : ℕ → ℕ → ℕ → ℕ → ℕ → Reply
-done_reply a b c d e = record { number = done; first = a; second = b; third = c; fourth = d; fifth = e }
+done_reply a b c d e = record { number = done; answer = a ∷ b ∷ c ∷ d ∷ e ∷ [] }
 
 abbrev pub refused_reply : Refusal ℕ → Reply
-refused_reply r =
-    record {
-      number = r.number;
-      first = length r.values;
-      second = get_or r.values 0 0;
-      third = get_or r.values 1 0;
-      fourth = 0;
-      fifth = 0;
-    }
+refused_reply r = record { number = r.number; answer = length r.values ∷ get_or r.values 0 0 ∷ get_or r.values 1 0 ∷ 0 ∷ 0 ∷ [] }
 
 abbrev pub with_counts : Reply → ℕ → ℕ → Reply
-with_counts r n k =
-    record { number = r.number; first = r.first; second = r.second; third = r.third; fourth = n; fifth = k }
+with_counts r n k = record { number = r.number; answer = take 3 r.answer ++ (n ∷ k ∷ []) }
+
+abbrev pub number_reply : Answer ℕ ℕ → Reply
+number_reply (taken n) = done_reply n 0 0 0 0
+number_reply (refused r) = refused_reply r
 
 abbrev pub plain_reply : Answer ℕ (Unit {0}) → Reply
 plain_reply (taken x) = done_reply 0 0 0 0 0
@@ -74,13 +68,13 @@ abbrev pub query_reply : Answer ℕ (Layout × ℕ) → Reply
 query_reply (taken x) = done_reply x.1 0 0 0 0
 query_reply (refused r) = refused_reply r
 
-abbrev pub did_of : Done → ℕ
-did_of Idle = 0
-did_of (Stored n) = 1
+abbrev pub did_of : Option ℕ → ℕ
+did_of None = 0
+did_of (Some n) = 1
 
-abbrev pub sector_of : Done → ℕ
-sector_of Idle = 0
-sector_of (Stored n) = n
+abbrev pub sector_of : Option ℕ → ℕ
+sector_of None = 0
+sector_of (Some n) = n
 
 abbrev pub acknowledged_bit : ℕ
 acknowledged_bit = 1
@@ -94,7 +88,7 @@ says_of saying.Acknowledged = acknowledged_bit
 says_of saying.Filling = filling_bit
 
 -- with two numbers more, n and k, which a refusal has too
-abbrev pub step_reply : Answer ℕ (Done × Says) → ℕ → ℕ → Reply
+abbrev pub step_reply : Answer ℕ (Option ℕ × Says) → ℕ → ℕ → Reply
 step_reply (taken x) n k = done_reply (did_of x.0) (sector_of x.0) (says_of x.1) n k
 step_reply (refused r) n k = with_counts (refused_reply r) n k
 

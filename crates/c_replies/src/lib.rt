@@ -7,21 +7,13 @@
 #![tactic(auto)]
 
 ghost use Rattle.std.specs.Prelude.{◌≡◌, length};
-ghost use Rattle.model.specs.Refusal.{refusal_of, format_answer, open_answer, query_answer, write_answer, flush_answer, step_answer, read_answer, verify_answer};
+ghost use Rattle.model.specs.Refusal.{refusal_of, answer_by, plain_answer, open_answer, query_answer, flush_answer, step_answer};
 ghost use Rattle.c_numbers.specs.Sizes.{layout_size, volume_state_size, answer_size};
-ghost use Rattle.c_replies.specs.Replies.{answer_bytes_of, done_reply, refused_reply, with_counts, plain_reply, flush_reply, open_reply, query_reply, did_of, sector_of, says_of, step_reply, opened_bytes, held_bytes};
+ghost use Rattle.c_replies.specs.Replies.{answer_bytes_of, refused_reply, with_counts, number_reply, plain_reply, flush_reply, open_reply, query_reply, says_of, step_reply, opened_bytes, held_bytes};
 
-use c_numbers::{done, put_five};
+use c_numbers::{done, put_numbers};
 use c_volume_state::{encode, put_layout};
-use model::{
-    Done, FlushAnswer, FormatAnswer, OpenAnswer, QueryAnswer, ReadAnswer, Refusal, Says,
-    StepAnswer, VerifyAnswer, WriteAnswer,
-};
-
-// What a step did.
-const IDLE: u64 = 0;
-
-const STORED: u64 = 1;
+use model::{Flushed, Held, Opened, Refusal, Says, Step};
 
 // The bits of what a step says.
 const ACKNOWLEDGED: u64 = 1;
@@ -32,167 +24,75 @@ const FILLING: u64 = 2;
 #[derive(Clone, Copy)]
 pub struct Reply {
     number: u32,
-    first: u64,
-    second: u64,
-    third: u64,
-    fourth: u64,
-    fifth: u64,
+    answer: [u64; 5],
 }
 
-// The reply of a call that was carried out.
-fn carried_out(a: u64, b: u64, c: u64, d: u64, e: u64) -> Reply
-    ensures { result ≡ done_reply a b c d e }
+// The reply of a call that was refused, with two numbers more.
+fn refused(r: Refusal, fourth: u64, fifth: u64) -> Reply
+    ensures { result ≡ with_counts (refused_reply (refusal_of r)) fourth fifth }
 {
+    let (count, first, second) = match r {
+        Refusal::Malformed
+        | Refusal::Parameter
+        | Refusal::Superblock
+        | Refusal::Invalid
+        | Refusal::Range
+        | Refusal::Full
+        | Refusal::NotNow
+        | Refusal::Exhausted => (0, 0, 0),
+        Refusal::Short(n)
+        | Refusal::StagedRange(n)
+        | Refusal::TagMismatch(n)
+        | Refusal::Misplaced(n) => (1, n, 0),
+        Refusal::JournalRange(section, entry) | Refusal::JournalTagMismatch(section, entry) => {
+            (2, section, entry)
+        }
+    };
     Reply {
-        number: done(),
-        first: a,
-        second: b,
-        third: c,
-        fourth: d,
-        fifth: e,
+        number: u32::from(r),
+        answer: [count, first as u64, second as u64, fourth, fifth],
     }
 }
 
-// The reply of a call that was refused, with so many values.
-fn refused_with(number: u32, count: u64, first: usize, second: usize) -> Reply
-    ensures { result ≡ record { number = number; first = count; second = first; third = second; fourth = 0; fifth = 0 } }
-{
-    Reply {
-        number: number,
-        first: count,
-        second: first as u64,
-        third: second as u64,
-        fourth: 0,
-        fifth: 0,
-    }
-}
-
-// The reply of a call that was refused.
-fn refused(r: Refusal) -> Reply
-    ensures { result ≡ refused_reply (refusal_of r) }
-{
-    let number = model::number(r);
-    match r {
-        Refusal::Malformed => refused_with(number, 0, 0, 0),
-        Refusal::Parameter => refused_with(number, 0, 0, 0),
-        Refusal::Superblock => refused_with(number, 0, 0, 0),
-        Refusal::Invalid => refused_with(number, 0, 0, 0),
-        Refusal::Short(needed) => refused_with(number, 1, needed, 0),
-        Refusal::Range => refused_with(number, 0, 0, 0),
-        Refusal::StagedRange(entry) => refused_with(number, 1, entry, 0),
-        Refusal::JournalRange(section, entry) => refused_with(number, 2, section, entry),
-        Refusal::TagMismatch(sector) => refused_with(number, 1, sector, 0),
-        Refusal::JournalTagMismatch(section, entry) => refused_with(number, 2, section, entry),
-        Refusal::Full => refused_with(number, 0, 0, 0),
-        Refusal::NotNow => refused_with(number, 0, 0, 0),
-        Refusal::Exhausted => refused_with(number, 0, 0, 0),
-        Refusal::Misplaced(section) => refused_with(number, 1, section, 0),
-    }
-}
-
-// The same reply, with other numbers as its fourth and fifth.
-fn with_counts(r: Reply, fourth: u64, fifth: u64) -> Reply
-    ensures { result ≡ with_counts r fourth fifth }
-{
-    Reply {
-        number: r.number,
-        first: r.first,
-        second: r.second,
-        third: r.third,
-        fourth: fourth,
-        fifth: fifth,
-    }
-}
-
-// The reply to what format answers.
-pub fn format_reply(a: FormatAnswer) -> Reply
-    ensures { result ≡ plain_reply (format_answer a) }
+// The reply to what a call answers that gives one number.
+fn number_reply(a: Result<u64, Refusal>) -> Reply
+    ensures { result ≡ number_reply (answer_by (λ n. n) a) }
 {
     match a {
-        FormatAnswer::Formatted => carried_out(0, 0, 0, 0, 0),
-        FormatAnswer::Refused(r) => refused(r),
+        Ok(n) => Reply {
+            number: done(),
+            answer: [n, 0, 0, 0, 0],
+        },
+        Err(r) => refused(r, 0, 0),
     }
 }
 
-// The reply to what write answers.
-pub fn write_reply(a: WriteAnswer) -> Reply
-    ensures { result ≡ plain_reply (write_answer a) }
+// The reply to what format, write, read or verify answers.
+pub fn plain_reply(a: Result<(), Refusal>) -> Reply
+    ensures { result ≡ plain_reply (plain_answer a) }
 {
-    match a {
-        WriteAnswer::Taken => carried_out(0, 0, 0, 0, 0),
-        WriteAnswer::Refused(r) => refused(r),
-    }
+    number_reply(a.map(|()| 0))
 }
 
 // The reply to what flush answers.
-pub fn flush_reply(a: FlushAnswer) -> Reply
+pub fn flush_reply(a: Result<Flushed, Refusal>) -> Reply
     ensures { result ≡ flush_reply (flush_answer a) }
 {
-    match a {
-        FlushAnswer::Acknowledged => carried_out(1, 0, 0, 0, 0),
-        FlushAnswer::Begun => carried_out(0, 0, 0, 0, 0),
-        FlushAnswer::Refused(r) => refused(r),
-    }
-}
-
-// The reply to what read answers.
-pub fn read_reply(a: ReadAnswer) -> Reply
-    ensures { result ≡ plain_reply (read_answer a) }
-{
-    match a {
-        ReadAnswer::Found => carried_out(0, 0, 0, 0, 0),
-        ReadAnswer::Refused(r) => refused(r),
-    }
-}
-
-// The reply to what verify answers.
-pub fn verify_reply(a: VerifyAnswer) -> Reply
-    ensures { result ≡ plain_reply (verify_answer a) }
-{
-    match a {
-        VerifyAnswer::Fits => carried_out(0, 0, 0, 0, 0),
-        VerifyAnswer::Refused(r) => refused(r),
-    }
+    number_reply(a.map(|x| u64::from(matches!(x, Flushed::Acknowledged))))
 }
 
 // The reply to what open answers.
-pub fn open_reply(a: OpenAnswer) -> Reply
+pub fn open_reply(a: Result<Opened, Refusal>) -> Reply
     ensures { result ≡ open_reply (open_answer a) }
 {
-    match a {
-        OpenAnswer::Opened(_, stores) => carried_out(stores as u64, 0, 0, 0, 0),
-        OpenAnswer::Refused(r) => refused(r),
-    }
+    number_reply(a.map(|x| x.stores as u64))
 }
 
 // The reply to what query answers.
-pub fn query_reply(a: QueryAnswer) -> Reply
+pub fn query_reply(a: Result<Held, Refusal>) -> Reply
     ensures { result ≡ query_reply (query_answer a) }
 {
-    match a {
-        QueryAnswer::Holds(_, staging) => carried_out(staging as u64, 0, 0, 0, 0),
-        QueryAnswer::Refused(r) => refused(r),
-    }
-}
-
-// What a step did, as a number.
-fn did(d: Done) -> u64
-    ensures { result ≡ did_of d }
-{
-    match d {
-        Done::Idle => IDLE,
-        Done::Stored(_) => STORED,
-    }
-}
-
-// The sector that a step stored; 0 where it stored none.
-fn sector_stored(d: Done) -> u64
-    ensures { result ≡ sector_of d }
-{
-    match d {
-        Done::Idle => 0,
-        Done::Stored(sector) => sector as u64,
-    }
+    number_reply(a.map(|x| x.staging as u64))
 }
 
 // What a step says, as bits.
@@ -207,12 +107,21 @@ fn says(x: Says) -> u64
 }
 
 // The reply to what a step answers, with two numbers more, which a refusal has too.
-pub fn step_reply(a: StepAnswer, fourth: u64, fifth: u64) -> Reply
+pub fn step_reply(a: Result<Step, Refusal>, fourth: u64, fifth: u64) -> Reply
     ensures { result ≡ step_reply (step_answer a) fourth fifth }
 {
     match a {
-        StepAnswer::Stepped(d, x) => carried_out(did(d), sector_stored(d), says(x), fourth, fifth),
-        StepAnswer::Refused(r) => with_counts(refused(r), fourth, fifth),
+        Ok(x) => Reply {
+            number: done(),
+            answer: [
+                u64::from(x.stored.is_some()),
+                x.stored.map_or(0, |sector| sector as u64),
+                says(x.says),
+                fourth,
+                fifth,
+            ],
+        },
+        Err(r) => refused(r, fourth, fifth),
     }
 }
 
@@ -221,28 +130,26 @@ pub fn put_reply(r: Reply, answer: &mut [u8]) -> u32
     requires { length answer.old ≡ answer_size }
     ensures { (result ≡ r.number) × (answer.new ≡ answer_bytes_of r) }
 {
-    put_five(answer, 0, r.first, r.second, r.third, r.fourth, r.fifth);
+    put_numbers(answer, 0, &r.answer);
     r.number
 }
 
 // The state that open gives written over a buffer; a refusal leaves the buffer as it was.
-pub fn put_opened(a: OpenAnswer, buffer: &mut [u8])
+pub fn put_opened(a: Result<Opened, Refusal>, buffer: &mut [u8])
     requires { length buffer.old ≡ volume_state_size }
     ensures { buffer.new ≡ opened_bytes (open_answer a) buffer.old }
 {
-    match a {
-        OpenAnswer::Opened(s, _) => encode(s, buffer),
-        OpenAnswer::Refused(_) => {}
+    if let Ok(x) = a {
+        encode(x.state, buffer);
     }
 }
 
 // The layout that query gives written over a buffer; a refusal leaves the buffer as it was.
-pub fn put_held(a: QueryAnswer, buffer: &mut [u8])
+pub fn put_held(a: Result<Held, Refusal>, buffer: &mut [u8])
     requires { length buffer.old ≡ layout_size }
     ensures { buffer.new ≡ held_bytes (query_answer a) buffer.old }
 {
-    match a {
-        QueryAnswer::Holds(g, _) => put_layout(g, buffer),
-        QueryAnswer::Refused(_) => {}
+    if let Ok(x) = a {
+        put_layout(x.layout, buffer);
     }
 }

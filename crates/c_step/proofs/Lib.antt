@@ -1,3 +1,2 @@
--- The theorem is in Refusals; Calls is what the proofs of the functions cite.
+-- The theorem.
 pub mod Refusals
-mod Calls

@@ -4,9 +4,9 @@ use native.Mathlib.Omega.{arith}
 use mathlib.Core.List.{List, []}
 use mathlib.Core.Logic.{◌≢◌}
 use mathlib.Core.Path.{◌≡◌, refl, sym, ◌∙◌}
+use Rattle.std.proofs.Common.{Option}
 use Rattle.octets.specs.Answer.{Answer, taken, refused}
 use Rattle.octets.specs.Numbers.{Bytes}
-use Rattle.model.specs.declared.Done.{Done}
 use Rattle.model.specs.declared.Says.{Says}
 use Rattle.model.specs.declared.State.{State}
 use Rattle.model.specs.State.{sector_ok}
@@ -26,7 +26,7 @@ use Rattle.c_replies.specs.Replies.{step_reply}
 use Rattle.c_step.specs.Steps.{RefusedStepKeeps, step_buffers, next_store_buffers, step_leaves, next_store_leaves, step_call, next_store_call}
 
 -- a refused step did nothing, and names no sector
-did_nothing : (a : Answer ℕ (Done × Says)) → (step_reply a 0 0).number ≢ done → (done_in a ≡ 0) × (sector_named a ≡ [])
+did_nothing : (a : Answer ℕ (Option ℕ × Says)) → (step_reply a 0 0).number ≢ done → (done_in a ≡ 0) × (sector_named a ≡ [])
 did_nothing (taken x) h = absurd (h refl)
 did_nothing (refused r) h = (refl, refl)
 

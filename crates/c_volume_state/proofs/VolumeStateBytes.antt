@@ -195,9 +195,5 @@ decode-state b h e =
 
 -- ---- as the calls cite it
 
--- r is what the code found
-pub held-length : (b : List ℕ) {r : Bool} → r ≡ encodes_state b → not r ≡ false → length b ≡ volume_state_size
-held-length b {r} er h = encodes-length b (sym er ∙ not-false r h)
-
 pub state-kept : (b : List ℕ) → Bytes b → not (encodes_state b) ≡ false → encode_of (decode_of b) ≡ b
 state-kept b h e = encode-decode b h (not-false (encodes_state b) e)

@@ -14,9 +14,10 @@
 -- decode_of b                : the state in the bytes b
 -- unused_are_zero b           : whether the numbers in b that have no meaning yet are 0
 -- encodes_state b            : whether b has the length of a state, zeros for the numbers without a meaning, and the numbers of a phase in their places
+-- state_in b                 : the state that b holds, if it holds one
 -- IsState s                 : s is a state that the code's type can hold
-use Rattle.std.specs.Prelude.{ℕ, ◌^◌, ◌<◌, Bool, ◌&&◌, List, [], ◌∷◌, ◌++◌, eqb, length}
-use Rattle.octets.specs.Choice.{first_met}
+use Rattle.std.specs.Prelude.{Option, Some, None, ℕ, ◌^◌, ◌<◌, Bool, ◌&&◌, List, [], ◌∷◌, ◌++◌, eqb, length}
+use Rattle.octets.specs.Choice.{pick, first_met}
 use Rattle.on_disk.specs.declared.Layout.{Layout}
 use Rattle.model.specs.declared.Phase.{Phase}
 use Rattle.model.specs.declared.Phase.TheVariants.{Filling, Committing, WritingBack, Recovering}
@@ -89,6 +90,9 @@ unused_are_zero b = eqb (number_at b 5) 0 && (eqb (number_at b 6) 0 && eqb (numb
 
 unfoldable pub encodes_state : List ℕ → Bool
 encodes_state b = eqb (length b) volume_state_size && (unused_are_zero b && is_phase (number_at b 8) (number_at b 9) (number_at b 10))
+
+abbrev pub state_in : List ℕ → Option State
+state_in b = pick (encodes_state b) (Some (decode_of b)) None
 
 -- every number has 64 bits
 pub record IsState (s : State) : Type 0 where

@@ -3,16 +3,17 @@
 // A state is thirteen numbers of 8 bytes each, little-endian: the layout's eight, of which the last three have no meaning yet and are 0, which phase, the
 // two of its place, the count, the id.
 //
-// These are functions for crate c_replies and the volume's calls on buffers. The calls test a buffer's length once; so a function here may have a
-// `requires`, and every caller shows it.
+// These are functions for crate c_replies and the volume's calls on buffers. A buffer's length is tested once, by `decode` or by the call; so a function
+// that writes may have a `requires`, and every caller shows it.
 #![tactic(auto)]
 
-ghost use Rattle.std.specs.Prelude.{◌≡◌, ◌≤◌, length};
+ghost use Rattle.std.specs.Prelude.{◌≡◌, ◌≤◌, length, OnSome};
+ghost use Rattle.octets.specs.Choice.{pick};
 ghost use Rattle.octets.specs.Parts.{patch};
 ghost use Rattle.c_numbers.specs.Sizes.{layout_size, volume_state_size};
-ghost use Rattle.c_volume_state.specs.VolumeState.{phase_numbers_of, phase_of, is_phase, layout_bytes_of, layout_of, encode_of, decode_of, unused_are_zero, encodes_state};
+ghost use Rattle.c_volume_state.specs.VolumeState.{phase_numbers_of, phase_of, is_phase, layout_bytes_of, layout_of, encode_of, unused_are_zero, state_in};
 
-use c_numbers::{number_at, put_five, put_three, volume_state_size};
+use c_numbers::{number_at, put_numbers, volume_state_size};
 use model::{Phase, State};
 use on_disk::Layout;
 
@@ -48,69 +49,50 @@ pub(crate) struct PhaseNumbers {
 fn phase_numbers(p: Phase) -> PhaseNumbers
     ensures { result ≡ phase_numbers_of p }
 {
-    match p {
-        Phase::Filling => PhaseNumbers {
-            phase: FILLING,
-            first: 0,
-            second: 0,
-        },
-        Phase::Committing(j) => PhaseNumbers {
-            phase: COMMITTING,
-            first: j as u64,
-            second: 0,
-        },
-        Phase::WritingBack(i, h) => PhaseNumbers {
-            phase: WRITING_BACK,
-            first: i as u64,
-            second: h as u64,
-        },
-        Phase::Recovering(k) => PhaseNumbers {
-            phase: RECOVERING,
-            first: k as u64,
-            second: 0,
-        },
+    let (phase, first, second) = match p {
+        Phase::Filling => (FILLING, 0, 0),
+        Phase::Committing(j) => (COMMITTING, j, 0),
+        Phase::WritingBack(i, h) => (WRITING_BACK, i, h),
+        Phase::Recovering(k) => (RECOVERING, k, 0),
+    };
+    PhaseNumbers {
+        phase,
+        first: first as u64,
+        second: second as u64,
     }
 }
 
-// The phase of three numbers.
-fn phase_of(phase: u64, first: usize, second: usize) -> Phase
-    ensures { result ≡ phase_of phase first second }
+// The phase of three numbers, if they are those of one.
+#[tactic(auto, unfolding(crate::specs::VolumeState::phase_of, crate::specs::VolumeState::is_phase))]
+fn phase_of(phase: u64, first: u64, second: u64) -> Option<Phase>
+    ensures { result ≡ pick (is_phase phase first second) (Some (phase_of phase first second)) None }
 {
-    if phase == FILLING {
-        return Phase::Filling;
+    match (phase, first, second) {
+        (FILLING, 0, 0) => Some(Phase::Filling),
+        (COMMITTING, j, 0) => Some(Phase::Committing(j as usize)),
+        (WRITING_BACK, i, h) => Some(Phase::WritingBack(i as usize, h as usize)),
+        (RECOVERING, k, 0) => Some(Phase::Recovering(k as usize)),
+        _ => None,
     }
-    if phase == COMMITTING {
-        return Phase::Committing(first);
-    }
-    if phase == WRITING_BACK {
-        return Phase::WritingBack(first, second);
-    }
-    Phase::Recovering(first)
-}
-
-// Whether three numbers are those of a phase.
-fn is_phase(phase: u64, first: u64, second: u64) -> bool
-    ensures { result ≡ is_phase phase first second }
-{
-    let q = phase_numbers(phase_of(phase, first as usize, second as usize));
-    (q.phase == phase) & ((q.first == first) & (q.second == second))
 }
 
 // A layout written to the start of a buffer.
+#[tactic(auto, unfolding(crate::specs::VolumeState::layout_numbers_of))]
 pub fn put_layout(g: Layout, buffer: &mut [u8])
     requires { layout_size ≤ length buffer.old }
     ensures { buffer.new ≡ patch buffer.old 0 (layout_bytes_of g) }
 {
-    put_five(
-        buffer,
-        0,
+    let numbers = [
         g.reserved as u64,
         g.shift as u64,
         g.width as u64,
         g.sections as u64,
         g.provided as u64,
-    );
-    put_three(buffer, 5, 0, 0, 0);
+        0,
+        0,
+        0,
+    ];
+    put_numbers(buffer, 0, &numbers);
 }
 
 // A state written over a buffer of its length.
@@ -118,46 +100,23 @@ pub fn encode(s: State, buffer: &mut [u8])
     requires { length buffer.old ≡ volume_state_size }
     ensures { buffer.new ≡ encode_of s }
 {
-    let g = s.layout;
-    put_layout(g, buffer);
-    let p = s.phase;
-    let place = phase_numbers(p);
-    put_five(
-        buffer,
-        PHASE,
-        place.phase,
-        place.first,
-        place.second,
-        s.count as u64,
-        s.id,
-    );
+    put_layout(s.layout, buffer);
+    let place = phase_numbers(s.phase);
+    let numbers = [place.phase, place.first, place.second, s.count as u64, s.id];
+    put_numbers(buffer, PHASE, &numbers);
 }
 
 // Whether the numbers of a state that have no meaning yet are 0.
+#[tactic(auto, unfolding(crate::specs::VolumeState::unused_are_zero))]
 fn unused_are_zero(buffer: &[u8]) -> bool
     requires { length buffer.now ≡ volume_state_size }
     ensures { result ≡ unused_are_zero buffer.now }
 {
-    let a = number_at(buffer, 5);
-    let b = number_at(buffer, 6);
-    let c = number_at(buffer, 7);
-    (a == 0) & ((b == 0) & (c == 0))
-}
-
-// Whether a buffer holds a state.
-pub fn encodes_state(buffer: &[u8]) -> bool
-    ensures { result ≡ encodes_state buffer.now }
-{
-    if buffer.len() != volume_state_size() {
-        return false;
-    }
-    let phase = number_at(buffer, PHASE);
-    let first = number_at(buffer, FIRST);
-    let second = number_at(buffer, SECOND);
-    unused_are_zero(buffer) & is_phase(phase, first, second)
+    number_at(buffer, 5) == 0 && number_at(buffer, 6) == 0 && number_at(buffer, 7) == 0
 }
 
 // The layout that a buffer begins with.
+#[tactic(auto, unfolding(crate::specs::VolumeState::layout_of))]
 fn layout_of(buffer: &[u8]) -> Layout
     requires { layout_size ≤ length buffer.now }
     ensures { result ≡ layout_of buffer.now }
@@ -171,20 +130,24 @@ fn layout_of(buffer: &[u8]) -> Layout
     }
 }
 
-// The state in a buffer of its length.
-pub fn decode(buffer: &[u8]) -> State
-    requires { length buffer.now ≡ volume_state_size }
-    ensures { result ≡ decode_of buffer.now }
+// The state that a buffer holds, if it holds one.
+#[tactic(auto, unfolding(crate::specs::VolumeState::encodes_state, crate::specs::VolumeState::decode_of))]
+pub fn decode(buffer: &[u8]) -> Option<State>
+    ensures read { result ≡ state_in buffer.now }
+    ensures size { OnSome result (length buffer.now ≡ volume_state_size) }
 {
-    let g = layout_of(buffer);
-    let phase = number_at(buffer, PHASE);
-    let first = number_at(buffer, FIRST) as usize;
-    let second = number_at(buffer, SECOND) as usize;
-    let p = phase_of(phase, first, second);
-    State {
-        layout: g,
-        phase: p,
+    if buffer.len() != volume_state_size() || !unused_are_zero(buffer) {
+        return None;
+    }
+    let phase = phase_of(
+        number_at(buffer, PHASE),
+        number_at(buffer, FIRST),
+        number_at(buffer, SECOND),
+    )?;
+    Some(State {
+        layout: layout_of(buffer),
+        phase,
         count: number_at(buffer, COUNT) as usize,
         id: number_at(buffer, ID),
-    }
+    })
 }

@@ -1,6 +1,9 @@
+use native.Mathlib.Omega.{arith}
 use mathlib.Core.Path.{refl}
-use Rattle.c_replies.proofs.Answers.{answered}
+use Rattle.c_numbers.proofs.NumberBytes.{all-written}
+use Rattle.c_replies.specs.Replies.{answer_bytes_of}
 use Rattle.c_replies.proofs.put_reply.Goals as goal
 
 pub returns : goal.returns
-returns c = (refl, answered c.args.r c.args.answer.now _ c.requires c.put_five.ensures)
+unfolding answer_bytes_of
+returns c = (refl, all-written c.args.answer.now _ c.args.r.answer (omega arith) c.put_numbers.ensures)
