@@ -1,6 +1,6 @@
 -- What a rule gives, over plain lists.
 use Prim.Native.Nat.{ℕ, ◌≤◌}
-use mathlib.Core.Bool.{true, false}
+use mathlib.Core.Bool.{true}
 use mathlib.Core.List.{List, ◌++◌}
 use mathlib.Core.Path.{◌≡◌, refl, ap, ◌∙◌}
 use native.Mathlib.Omega.{arith}
@@ -17,10 +17,7 @@ use Rattle.digest.specs.Pieces.{limit, closed, digest_of}
 use Rattle.digest.specs.Sha256.{sha256}
 use Rattle.digest.specs.Sha256.Promise.{length-sha256, digest-given}
 use Rattle.hmac.specs.Hmac.{key_ok}
-use Rattle.hmac.specs.Kept.{mac_of}
 use Rattle.on_disk.proofs.Addresses.{and_both}
-use Rattle.sound.specs.declared.tag.Rule.{Rule}
-use Rattle.sound.specs.Rule.{digest_by}
 
 -- a key that a call takes is within the digest's limit
 pub key_fits : (k : List ℕ) → key_ok k ≡ true → length k ≤ limit
@@ -29,11 +26,6 @@ key_fits k e = omega (arith, leb-true (length k) 256 (and_both (leb 1 (length k)
 pub number_is : (s : ℕ) (n : List ℕ) → n ≡ patch (replicate 8 0) 0 (le 8 s) → n ≡ le 8 s
 number_is s n e = e ∙ patch-all (replicate 8 0) (le 8 s) refl
 
--- under a key
-pub keyed : (q : Rule) (s : ℕ) (b n r : List ℕ) → q.keyed ≡ true → n ≡ patch (replicate 8 0) 0 (le 8 s) → r ≡ mac_of q.key (n ++ b) → r ≡ digest_by q (le 8 s ++ b)
-keyed q s b n r k en er =
-    er ∙ ap (λ (m : List ℕ). mac_of q.key (m ++ b)) (number_is s n en) ∙ rw k
-
 -- by R14: the digest of a sector's number and its bytes is within the limit
 module _ (s : ℕ) (b n : List ℕ) (r : Result (List ℕ) TooLong) (whole : length b ≡ 512) (en : n ≡ patch (replicate 8 0) 0 (le 8 s)) (er : closed r ≡ digest_of (n ++ b)) where
   pub digested : r ≡ Ok (sha256 (le 8 s ++ b))
@@ -41,7 +33,7 @@ module _ (s : ℕ) (b n : List ℕ) (r : Result (List ℕ) TooLong) (whole : len
       let size : length (le 8 s ++ b) ≡ 520 = rw (length-append, length-le 8 s, whole) in
       digest-given (le 8 s ++ b) r (omega arith) (er ∙ ap (λ (m : List ℕ). digest_of (m ++ b)) (number_is s n en))
 
-  pub plain : (q : Rule) (d : List ℕ) → q.keyed ≡ false → r ≡ Ok d → (d ≡ digest_by q (le 8 s ++ b)) × (length d ≡ 32)
-  plain q d k ed =
+  pub plain : (d : List ℕ) → r ≡ Ok d → (d ≡ sha256 (le 8 s ++ b)) × (length d ≡ 32)
+  plain d ed =
       let taken : d ≡ sha256 (le 8 s ++ b) = cc (ed, digested) in
-      (taken ∙ rw k, ap length taken ∙ length-sha256 (le 8 s ++ b))
+      (taken, ap length taken ∙ length-sha256 (le 8 s ++ b))

@@ -4,8 +4,7 @@ ghost use Rattle.model.specs.Refusal.{flush_answer};
 ghost use Rattle.model.specs.Flush.{flush_of};
 
 use model::{Flushed, Phase, Refusal, State};
-use sound::state;
-use sound::state::LAST_ID;
+use sound::state::{self, LAST_ID};
 
 // An empty batch is acknowledged at once; otherwise committing begins.
 pub fn flush(s: &mut State) -> Result<Flushed, Refusal>

@@ -9,8 +9,8 @@ ghost use Rattle.sound.specs.Rule.{tag_by};
 
 use layout::SECTOR_SIZE;
 use model::{Refusal, State};
+use sound::state;
 use sound::tag::Rule;
-use sound::{state, tag};
 
 // The first check: whether the state is sound and each loan has its length.
 fn loans_ok(s: State, st: &[u8], bytes: &[u8]) -> bool
@@ -45,7 +45,7 @@ fn write_by(
     if layout::entry_count(width) <= s.count {
         return Err(Refusal::Full);
     }
-    let digest = tag::tag(rule, sector, bytes);
+    let digest = rule.tag(sector, bytes);
     section::put_entry(st, width, s.count, sector, bytes, &digest);
     s.count += 1;
     Ok(())
@@ -58,7 +58,7 @@ pub fn write(s: &mut State, st: &mut [u8], sector: usize, bytes: &[u8]) -> Resul
     if !loans_ok(*s, st, bytes) {
         return Err(Refusal::Malformed);
     }
-    write_by(tag::plain(), s, st, sector, bytes)
+    write_by(Rule::Plain, s, st, sector, bytes)
 }
 
 // Adds an entry with a tag under a key (R105, R106).
@@ -77,5 +77,5 @@ pub fn write_keyed(
     if !hmac::key_ok(key) {
         return Err(Refusal::Parameter);
     }
-    write_by(tag::by_key(key), s, st, sector, bytes)
+    write_by(Rule::of_key(key), s, st, sector, bytes)
 }

@@ -15,7 +15,6 @@ ghost use Rattle.volume_format.specs.Runs.{fresh_runs};
 use layout::{SECTOR_SIZE, superblock};
 use model::Refusal;
 use on_disk::Layout;
-use sound::tag;
 use sound::tag::Rule;
 
 // Stores the tags of the n logical sectors from first on, all zero, from byte at on.
@@ -25,7 +24,7 @@ fn put_tags(rule: Rule, v: &mut [u8], first: usize, n: usize, width: usize, at: 
 {
     let sector = [0u8; SECTOR_SIZE];
     for i in 0..n {
-        let digest = tag::tag(rule, first + i, &sector);
+        let digest = rule.tag(first + i, &sector);
         octets::copy_at(v, at + i * width, &digest, 0, width);
     }
 }
@@ -113,7 +112,7 @@ fn format_by(rule: Rule, v: &mut [u8], g: Layout) -> Result<(), Refusal>
 pub fn format(v: &mut [u8], g: Layout) -> Result<(), Refusal>
     ensures { record { answer = plain_answer result; volume = v.new } ≡ format_of tag_of g v.old }
 {
-    format_by(tag::plain(), v, g)
+    format_by(Rule::Plain, v, g)
 }
 
 // Formats for tags under a key (R105, R106).
@@ -126,5 +125,5 @@ pub fn format_keyed(v: &mut [u8], g: Layout, key: &[u8]) -> Result<(), Refusal>
     if !hmac::key_ok(key) {
         return Err(Refusal::Parameter);
     }
-    format_by(tag::by_key(key), v, g)
+    format_by(Rule::of_key(key), v, g)
 }

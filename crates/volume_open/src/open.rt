@@ -20,9 +20,8 @@ use layout::{MOST_SECTIONS, SECTOR_SIZE};
 use model::{Opened, Phase, Refusal, State};
 use on_disk::Layout;
 use section::UNUSED;
-use sound::state::LAST_ID;
+use sound::state::{self, LAST_ID};
 use sound::tag::Rule;
-use sound::{state, tag};
 
 // Whether entry i of section k, if it is used, can be replayed.
 fn check_entry(rule: Rule, g: Layout, section: &[u8], k: usize, i: usize) -> Result<(), Refusal>
@@ -38,7 +37,7 @@ fn check_entry(rule: Rule, g: Layout, section: &[u8], k: usize, i: usize) -> Res
     }
     let mut bytes = [0u8; SECTOR_SIZE];
     section::entry_data(section, g.width, i, &mut bytes);
-    let digest = tag::tag(rule, sector as usize, &bytes);
+    let digest = rule.tag(sector as usize, &bytes);
     let stored = section::entry_tag(section, g.width, i);
     if !octets::same_at(stored, 0, &digest, 0, g.width) {
         return Err(Refusal::JournalTagMismatch(k, i));
@@ -132,7 +131,7 @@ fn open_by(rule: Rule, v: &[u8], st: &mut [u8], r: usize) -> Result<Opened, Refu
 pub fn open(v: &[u8], st: &mut [u8], r: usize) -> Result<Opened, Refusal>
     ensures { record { answer = open_answer result; staging = st.new } ≡ open_of tag_of r v.now st.old }
 {
-    open_by(tag::plain(), v, st, r)
+    open_by(Rule::Plain, v, st, r)
 }
 
 // Opens a volume whose tags are under a key (R105, R106).
@@ -145,5 +144,5 @@ pub fn open_keyed(v: &[u8], st: &mut [u8], r: usize, key: &[u8]) -> Result<Opene
     if !hmac::key_ok(key) {
         return Err(Refusal::Parameter);
     }
-    open_by(tag::by_key(key), v, st, r)
+    open_by(Rule::of_key(key), v, st, r)
 }

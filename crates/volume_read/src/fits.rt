@@ -7,7 +7,6 @@ ghost use Rattle.sound.specs.Rule.{tag_by};
 
 use layout::SECTOR_SIZE;
 use on_disk::Layout;
-use sound::tag;
 use sound::tag::Rule;
 
 // Whether the tag of a sector fits its data.
@@ -17,6 +16,6 @@ pub fn tag_fits(rule: Rule, v: &[u8], g: Layout, sector: usize) -> bool
 {
     let start = layout::data_at(g, sector) * SECTOR_SIZE;
     let end = start + SECTOR_SIZE;
-    let digest = tag::tag(rule, sector, &v[start..end]);
+    let digest = rule.tag(sector, &v[start..end]);
     octets::same_at(v, layout::tag_byte(g, sector), &digest, 0, g.width)
 }

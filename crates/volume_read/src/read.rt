@@ -13,8 +13,8 @@ ghost use Rattle.sound.specs.Rule.{tag_by};
 use crate::fits::tag_fits;
 use layout::SECTOR_SIZE;
 use model::{Refusal, State};
+use sound::state;
 use sound::tag::Rule;
-use sound::{state, tag};
 
 // The place of the newest of the first c staged entries for a sector, if there is one.
 fn newest_for(st: &[u8], t: usize, c: usize, sector: usize) -> Option<usize>
@@ -79,7 +79,7 @@ pub fn read(s: State, v: &[u8], st: &[u8], sector: usize, bytes: &mut [u8]) -> R
     if !loans_ok(s, v, st, bytes) {
         return Err(Refusal::Malformed);
     }
-    read_by(tag::plain(), s, v, st, sector, bytes)
+    read_by(Rule::Plain, s, v, st, sector, bytes)
 }
 
 // Reads where tags are under a key (R105, R106).
@@ -99,5 +99,5 @@ pub fn read_keyed(
     if !hmac::key_ok(key) {
         return Err(Refusal::Parameter);
     }
-    read_by(tag::by_key(key), s, v, st, sector, bytes)
+    read_by(Rule::of_key(key), s, v, st, sector, bytes)
 }

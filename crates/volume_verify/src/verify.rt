@@ -11,8 +11,8 @@ ghost use Rattle.volume_verify.specs.Results.{tags_verdict};
 
 use model::{Refusal, State};
 use on_disk::Layout;
+use sound::state;
 use sound::tag::Rule;
-use sound::{state, tag};
 use volume_read::fits::tag_fits;
 
 // The first check: whether the state is sound, and the volume one that it fits.
@@ -64,7 +64,7 @@ pub fn verify(s: State, v: &[u8], first: usize, count: usize) -> Result<(), Refu
     if !loans_ok(s, v) {
         return Err(Refusal::Malformed);
     }
-    verify_by(tag::plain(), s, v, first, count)
+    verify_by(Rule::Plain, s, v, first, count)
 }
 
 // Verifies where tags are under a key (R105, R106), which is set up once for all the sectors.
@@ -83,5 +83,5 @@ pub fn verify_keyed(
     if !hmac::key_ok(key) {
         return Err(Refusal::Parameter);
     }
-    verify_by(tag::by_key(key), s, v, first, count)
+    verify_by(Rule::of_key(key), s, v, first, count)
 }

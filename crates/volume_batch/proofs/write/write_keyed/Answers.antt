@@ -21,6 +21,6 @@ returns c =
     let a = c.args in
     let key = a.key.now in
     c.write_by.ensures
-    ∙ ap (λ (x : Rule). write_of (tag_by x) a.s.now a.st.now a.sector a.bytes.now) c.by_key.ensures
+    ∙ ap (λ (x : Rule). write_of (tag_by x) a.s.now a.st.now a.sector a.bytes.now) c.of_key.ensures
     ∙ ap (λ (tags : Tags). write_of tags a.s.now a.st.now a.sector a.bytes.now) (keyed-tags key)
     ∙ sym ((keyed-calls.taken key (sym c.key_ok.ensures ∙ c.if-not-key_ok.false)).write a.s.now a.st.now a.sector a.bytes.now)

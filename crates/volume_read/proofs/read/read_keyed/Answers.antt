@@ -20,6 +20,6 @@ pub returns : goal.returns
 returns c =
     let a = c.args in
     c.read_by.ensures
-    ∙ ap (λ (x : Rule). read_of (tag_by x) a.s a.v.now a.st.now a.sector a.bytes.now) c.by_key.ensures
+    ∙ ap (λ (x : Rule). read_of (tag_by x) a.s a.v.now a.st.now a.sector a.bytes.now) c.of_key.ensures
     ∙ ap (λ (tags : Tags). read_of tags a.s a.v.now a.st.now a.sector a.bytes.now) (keyed-tags a.key.now)
     ∙ sym ((keyed-calls.taken a.key.now (sym c.key_ok.ensures ∙ c.if-not-key_ok.false)).read a.s a.v.now a.st.now a.sector a.bytes.now)

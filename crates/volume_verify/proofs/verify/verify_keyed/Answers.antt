@@ -19,6 +19,6 @@ pub returns : goal.returns
 returns c =
     let a = c.args in
     c.verify_by.ensures
-    ∙ ap (λ (x : Rule). verify_of (tag_by x) a.s a.v.now a.first a.count) c.by_key.ensures
+    ∙ ap (λ (x : Rule). verify_of (tag_by x) a.s a.v.now a.first a.count) c.of_key.ensures
     ∙ ap (λ (tags : Tags). verify_of tags a.s a.v.now a.first a.count) (keyed-tags a.key.now)
     ∙ sym (verifies-keyed.taken a.key.now (sym c.key_ok.ensures ∙ c.if-not-key_ok.false) a.s a.v.now a.first a.count)
