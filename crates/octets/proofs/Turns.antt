@@ -1,4 +1,4 @@
--- One turn of each loop over bytes, and of one that fills in an array, over plain lists.
+-- One turn of each loop over bytes, and of one that fills in an array, and what a fold over two lists gives, over plain lists.
 use Prim.Native.Nat.{ℕ, suc, ◌+◌, ◌-◌, ◌/◌, ◌%◌, ◌≤◌, ◌<◌}
 use native.Mathlib.Numerals.{add-one}
 use native.Mathlib.Omega.{arith}
