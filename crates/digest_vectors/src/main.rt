@@ -78,7 +78,7 @@ fn repeated<W: Write>(out: &mut W, name: &[u8], x: u8, n: usize) -> io::Result<(
     requires { n ≤ 1005 }
 {
     let mut message = [0u8; REPEATED_MOST];
-    octets::fill_at(&mut message, 0, n, x);
+    message[..n].fill(x);
     vector(out, name, &message[..n])
 }
 
@@ -93,8 +93,8 @@ fn pattern<W: Write>(out: &mut W, n: usize) -> io::Result<()>
     requires { n ≤ 300 }
 {
     let mut message = [0u8; PATTERN_MOST];
-    for i in 0..n {
-        message[i] = ((i * 7 + n * 13) % 256) as u8;
+    for (i, byte) in message.iter_mut().enumerate() {
+        *byte = ((i * 7 + n * 13) % 256) as u8;
     }
     write!(out, "length-{n}")?;
     print_digest(out, &message[..n])

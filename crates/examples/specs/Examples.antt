@@ -19,9 +19,8 @@ use Rattle.model.specs.Tag.{tag_of}
 use Rattle.model.specs.Format.{format_of}
 use Rattle.model.specs.Write.{write_of}
 use Rattle.model.specs.Keyed.{write_keyed_of}
-use Rattle.digest.specs.declared.Answer.TheVariants as digest
 use Rattle.digest.specs.Answer as digest-answers
-use Rattle.hmac.specs.declared.Answer.TheVariants as hmac
+use Rattle.hmac.specs.declared.Refusal.TheVariants as hmac
 use Rattle.hmac.specs.Answer as hmac-answers
 use Rattle.tree.specs.declared.Refusal.TheVariants as tree
 use Rattle.tree.specs.Answer as tree-answers
@@ -182,7 +181,7 @@ pub record Told : Type 0 where
 abbrev refusals : List Told
 refusals =
     -- digest. 1: its limit is passed
-    record { given = told_plain (digest-answers.answer_of digest.TooLong); paper = pos 1 ∷ [] } ∷
+    record { given = told_plain (digest-answers.answer_of (record {})); paper = pos 1 ∷ [] } ∷
     -- HMAC. 1 and 2: the digest's limit, the length of a key (R106)
     record { given = told_plain (hmac-answers.answer_of hmac.TooLong); paper = pos 1 ∷ [] } ∷
     record { given = told_plain (hmac-answers.answer_of hmac.KeyLength); paper = pos 2 ∷ [] } ∷

@@ -1,7 +1,6 @@
 // A mac made in both forms, and the end of its line.
 ghost use Rattle.std.specs.Prelude.{◌≤◌, length};
 
-use hmac::Answer;
 use std::io::{self, Write};
 
 // Prints the first n bytes of the mac, ` MAC`, where both forms give it, else ` differs`; or ` refused NUMBER`.
@@ -13,12 +12,10 @@ pub(crate) fn print_mac<W: Write>(
 ) -> io::Result<()>
     requires { (length key.now ≤ 257) × (length message.now ≤ 200) × (n ≤ 32) }
 {
-    let whole = hmac::hmac(key, message);
-    let Answer::Taken = whole.answer else {
-        let number = hmac::number(whole.answer);
-        return writeln!(out, " refused {number}");
-    };
-    print_both(out, whole.mac, in_parts(key, message), n)
+    match hmac::hmac(key, message) {
+        Ok(mac) => print_both(out, mac, in_parts(key, message), n),
+        Err(e) => writeln!(out, " refused {}", u32::from(e)),
+    }
 }
 
 // The mac by a kept key, of the message in two parts.
@@ -33,7 +30,7 @@ fn in_parts(key: &[u8], message: &[u8]) -> [u8; 32]
 fn print_both<W: Write>(out: &mut W, one: [u8; 32], other: [u8; 32], n: usize) -> io::Result<()>
     requires { n ≤ 32 }
 {
-    if !octets::same_at(&one, 0, &other, 0, 32) {
+    if one != other {
         return out.write_all(b" differs\n");
     }
     out.write_all(b" ")?;

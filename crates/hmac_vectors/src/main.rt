@@ -103,7 +103,7 @@ fn pattern<W: Write>(out: &mut W, n: usize) -> io::Result<()>
 fn fill(d: &mut [u8], x: usize)
     requires { (length d.old ≤ 257) × (x ≤ 65535) }
 {
-    for i in 0..d.len() {
-        d[i] = ((i * 7 + x) % 256) as u8;
+    for (i, byte) in d.iter_mut().enumerate() {
+        *byte = ((i * 7 + x) % 256) as u8;
     }
 }

@@ -120,8 +120,7 @@ fn line<W: Write>(
 }
 
 fn digest_of(s: &[u8]) -> [u8; DIGEST_SIZE] {
-    let closed = digest::sha256(s);
-    closed.digest
+    digest::sha256(s).unwrap_or([0; DIGEST_SIZE])
 }
 
 // How many blocks of the image are accepted at their own index.
