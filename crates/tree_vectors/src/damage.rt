@@ -14,233 +14,250 @@ const IMAGE: usize = 528384;
 
 const TREE: usize = 12288;
 
+// What verifying is lent.
+#[derive(Clone, Copy)]
+struct Loans<'a> {
+    block: &'a [u8],
+    index: usize,
+    tree: &'a [u8],
+    count: usize,
+    salt: &'a [u8],
+    root: &'a [u8],
+}
+
 pub(crate) fn answers<W: Write>(out: &mut W, image: &[u8], salts: &[u8]) -> io::Result<()> {
-    let mut tree = [0u8; TREE];
     let salt = span(salts, 0, 8);
-    let root = tree::build(COUNT, salt, span(image, 0, IMAGE), &mut tree).unwrap_or(
-        [0; DIGEST_SIZE],
-    );
-    verifying(out, image, salts, &mut tree, &root)?;
+    let mut tree = [0u8; TREE];
+    let built = tree::build(COUNT, salt, span(image, 0, IMAGE), &mut tree);
+    let root = built.unwrap_or([0; DIGEST_SIZE]);
+    let five = Loans {
+        block: span(image, 20480, 24576),
+        index: 5,
+        tree: &tree,
+        count: COUNT,
+        salt,
+        root: &root,
+    };
+    let last = Loans {
+        block: span(image, 524288, 528384),
+        index: 128,
+        ..five
+    };
+    blocks(out, salts, five, last)?;
+    block_bit(out, b"bit of the data block", five)?;
+    root_bit(out, b"bit of the root digest", five)?;
+    level_0(out, five, last)?;
+    level_1(out, five)?;
+    lengths(out, image, salts, five)?;
+    ranges(out, five)?;
     building(out, image, salts)?;
     one_block(out, span(image, 0, BLOCK_SIZE), salts)
 }
 
-fn verifying<W: Write>(
-    out: &mut W,
-    image: &[u8],
-    salts: &[u8],
-    tree: &mut [u8],
-    root: &[u8],
-) -> io::Result<()> {
-    let salt = span(salts, 0, 8);
-    let five = span(image, 20480, 24576);
-    let last = span(image, 524288, 528384);
-    blocks(out, five, last, tree, salts, root)?;
-    digests(
-        out,
-        b"bit of the data block",
-        b"bit of the root digest",
-        five,
-        5,
+// The answer to verifying.
+fn verified<W: Write>(out: &mut W, name: &[u8], loans: Loans) -> io::Result<()> {
+    let Loans {
+        block,
+        index,
         tree,
-        COUNT,
+        count,
         salt,
         root,
-    )?;
-    level_0(out, five, last, tree, salt, root)?;
-    level_1(out, five, tree, salt, root)?;
-    lengths(out, image, tree, salts, root)?;
-    ranges(out, five, tree, salt, root)
-}
-
-// The answer for a data block.
-fn block<W: Write>(
-    out: &mut W,
-    name: &[u8],
-    block: &[u8],
-    index: usize,
-    tree: &[u8],
-    salt: &[u8],
-    root: &[u8],
-) -> io::Result<()> {
-    counted(out, name, block, index, tree, COUNT, salt, root)
-}
-
-fn counted<W: Write>(
-    out: &mut W,
-    name: &[u8],
-    block: &[u8],
-    index: usize,
-    tree: &[u8],
-    count: usize,
-    salt: &[u8],
-    root: &[u8],
-) -> io::Result<()> {
+    } = loans;
     out.write_all(name)?;
     report::answer(out, tree::verify(block, index, tree, count, salt, root))
 }
 
-// s with the lowest bit of byte at inverted.
-fn flip(s: &mut [u8], at: usize) {
-    if let Some(byte) = s.get_mut(at) {
-        *byte ^= 1;
+// The N bytes of s, with the lowest bit inverted of those at these places.
+fn flipped<const N: usize>(s: &[u8], places: &[usize]) -> [u8; N] {
+    let mut damaged = <[u8; N]>::try_from(s).unwrap_or([0; N]);
+    for at in places {
+        if let Some(byte) = damaged.get_mut(*at) {
+            *byte ^= 1;
+        }
     }
+    damaged
 }
 
 // Nothing, the index and the salt.
-fn blocks<W: Write>(
-    out: &mut W,
-    five: &[u8],
-    last: &[u8],
-    tree: &[u8],
-    salts: &[u8],
-    root: &[u8],
-) -> io::Result<()> {
-    let salt = span(salts, 0, 8);
-    block(out, b"nothing", five, 5, tree, salt, root)?;
-    block(out, b"nothing, block 128", last, 128, tree, salt, root)?;
-    block(out, b"index of the next block", five, 6, tree, salt, root)?;
-    block(
+fn blocks<W: Write>(out: &mut W, salts: &[u8], five: Loans, last: Loans) -> io::Result<()> {
+    let below_another = b"index of a block below another hash block";
+    let other = span(salts, 1, 9);
+    let shorter = span(salts, 0, 7);
+    verified(out, b"nothing", five)?;
+    verified(out, b"nothing, block 128", last)?;
+    verified(out, b"index of the next block", Loans { index: 6, ..five })?;
+    verified(out, below_another, Loans { index: 128, ..five })?;
+    verified(
         out,
-        b"index of a block below another hash block",
-        five,
-        128,
-        tree,
-        salt,
-        root,
+        b"other salt",
+        Loans {
+            salt: other,
+            ..five
+        },
     )?;
-    block(out, b"other salt", five, 5, tree, span(salts, 1, 9), root)?;
-    block(out, b"shorter salt", five, 5, tree, span(salts, 0, 7), root)
+    verified(
+        out,
+        b"shorter salt",
+        Loans {
+            salt: shorter,
+            ..five
+        },
+    )
 }
 
-// A bit of the data block and of the root digest, each under its name.
-fn digests<W: Write>(
-    out: &mut W,
-    of_block: &[u8],
-    of_root: &[u8],
-    block: &[u8],
-    index: usize,
-    tree: &[u8],
-    count: usize,
-    salt: &[u8],
-    root: &[u8],
-) -> io::Result<()> {
-    let mut damaged = [0u8; BLOCK_SIZE];
-    copy(&mut damaged, block);
-    flip(&mut damaged, 100);
-    counted(out, of_block, &damaged, index, tree, count, salt, root)?;
-    let mut other = [0u8; DIGEST_SIZE];
-    copy(&mut other, root);
-    flip(&mut other, 31);
-    counted(out, of_root, block, index, tree, count, salt, &other)
+// A bit of the data block.
+fn block_bit<W: Write>(out: &mut W, name: &[u8], loans: Loans) -> io::Result<()> {
+    let block = flipped::<BLOCK_SIZE>(loans.block, &[100]);
+    verified(
+        out,
+        name,
+        Loans {
+            block: &block,
+            ..loans
+        },
+    )
 }
 
-fn copy(to: &mut [u8], from: &[u8]) {
-    if let Some(part) = to.get_mut(..from.len()) {
-        part.copy_from_slice(from);
-    }
+// A bit of the root digest.
+fn root_bit<W: Write>(out: &mut W, name: &[u8], loans: Loans) -> io::Result<()> {
+    let root = flipped::<DIGEST_SIZE>(loans.root, &[31]);
+    verified(
+        out,
+        name,
+        Loans {
+            root: &root,
+            ..loans
+        },
+    )
 }
 
-// A bit of the tree at byte at; afterwards the tree is as before.
-fn tree_bit<W: Write>(
-    out: &mut W,
-    name: &[u8],
-    at: usize,
-    five: &[u8],
-    index: usize,
-    tree: &mut [u8],
-    salt: &[u8],
-    root: &[u8],
-) -> io::Result<()> {
-    flip(tree, at);
-    let printed = block(out, name, five, index, tree, salt, root);
-    flip(tree, at);
-    printed
+// Bits of the tree, in the bytes at these places.
+fn tree_bits<W: Write>(out: &mut W, name: &[u8], places: &[usize], loans: Loans) -> io::Result<()> {
+    let tree = flipped::<TREE>(loans.tree, places);
+    verified(
+        out,
+        name,
+        Loans {
+            tree: &tree,
+            ..loans
+        },
+    )
 }
 
 // Level 0 on the path.
-fn level_0<W: Write>(
-    out: &mut W,
-    five: &[u8],
-    last: &[u8],
-    tree: &mut [u8],
-    salt: &[u8],
-    root: &[u8],
-) -> io::Result<()> {
-    let on_path = b"bit of the data block's digest";
-    let other = b"bit of another digest in level 0";
-    let padding = b"bit of level 0's padding, block 128";
-    let off_path = b"bit of a hash block off the path";
-    tree_bit(out, on_path, 4256, five, 5, tree, salt, root)?;
-    tree_bit(out, other, 7296, five, 5, tree, salt, root)?;
-    tree_bit(out, padding, 12287, last, 128, tree, salt, root)?;
-    tree_bit(out, off_path, 8192, five, 5, tree, salt, root)
+fn level_0<W: Write>(out: &mut W, five: Loans, last: Loans) -> io::Result<()> {
+    tree_bits(out, b"bit of the data block's digest", &[4256], five)?;
+    tree_bits(out, b"bit of another digest in level 0", &[7296], five)?;
+    tree_bits(out, b"bit of level 0's padding, block 128", &[12287], last)?;
+    tree_bits(out, b"bit of a hash block off the path", &[8192], five)
 }
 
 // Level 1, and both levels at once.
-fn level_1<W: Write>(
-    out: &mut W,
-    five: &[u8],
-    tree: &mut [u8],
-    salt: &[u8],
-    root: &[u8],
-) -> io::Result<()> {
-    let on_path = b"bit of level 0's digest";
-    let other = b"bit of another digest in level 1";
-    let padding = b"bit of level 1's padding";
-    tree_bit(out, on_path, 0, five, 5, tree, salt, root)?;
-    tree_bit(out, other, 32, five, 5, tree, salt, root)?;
-    tree_bit(out, padding, 4095, five, 5, tree, salt, root)?;
-    let both = b"bits of level 0 and of level 1";
-    flip(tree, 4256);
-    let printed = tree_bit(out, both, 32, five, 5, tree, salt, root);
-    flip(tree, 4256);
-    printed
+fn level_1<W: Write>(out: &mut W, five: Loans) -> io::Result<()> {
+    tree_bits(out, b"bit of level 0's digest", &[0], five)?;
+    tree_bits(out, b"bit of another digest in level 1", &[32], five)?;
+    tree_bits(out, b"bit of level 1's padding", &[4095], five)?;
+    tree_bits(out, b"bits of level 0 and of level 1", &[4256, 32], five)
 }
 
 // The length of each loan.
-fn lengths<W: Write>(
-    out: &mut W,
-    image: &[u8],
-    tree: &[u8],
-    salts: &[u8],
-    root: &[u8],
-) -> io::Result<()> {
-    let salt = span(salts, 0, 8);
-    let five = span(image, 20480, 24576);
+fn lengths<W: Write>(out: &mut W, image: &[u8], salts: &[u8], five: Loans) -> io::Result<()> {
     let short_block = span(image, 20480, 24575);
     let long_block = span(image, 20480, 24577);
-    let short_root = span(root, 0, 31);
-    let short_tree = span(tree, 0, 12287);
+    let short_root = span(five.root, 0, 31);
+    let short_tree = span(five.tree, 0, 12287);
     let long_tree = span(image, 0, 12289);
-    block(out, b"short block", short_block, 5, tree, salt, root)?;
-    block(out, b"long block", long_block, 5, tree, salt, root)?;
-    block(out, b"short root digest", five, 5, tree, salt, short_root)?;
-    block(out, b"long root digest", five, 5, tree, salt, salts)?;
-    block(out, b"long salt", five, 5, tree, salts, root)?;
-    block(out, b"short tree", five, 5, short_tree, salt, root)?;
-    block(out, b"long tree", five, 5, long_tree, salt, root)
+    verified(
+        out,
+        b"short block",
+        Loans {
+            block: short_block,
+            ..five
+        },
+    )?;
+    verified(
+        out,
+        b"long block",
+        Loans {
+            block: long_block,
+            ..five
+        },
+    )?;
+    verified(
+        out,
+        b"short root digest",
+        Loans {
+            root: short_root,
+            ..five
+        },
+    )?;
+    verified(
+        out,
+        b"long root digest",
+        Loans {
+            root: salts,
+            ..five
+        },
+    )?;
+    verified(
+        out,
+        b"long salt",
+        Loans {
+            salt: salts,
+            ..five
+        },
+    )?;
+    verified(
+        out,
+        b"short tree",
+        Loans {
+            tree: short_tree,
+            ..five
+        },
+    )?;
+    verified(
+        out,
+        b"long tree",
+        Loans {
+            tree: long_tree,
+            ..five
+        },
+    )
 }
 
 // The count and the index.
-fn ranges<W: Write>(
-    out: &mut W,
-    five: &[u8],
-    tree: &[u8],
-    salt: &[u8],
-    root: &[u8],
-) -> io::Result<()> {
-    counted(out, b"count 0", five, 0, tree, 0, salt, root)?;
-    counted(out, b"count 16385", five, 5, tree, 16385, salt, root)?;
-    counted(out, b"count 128", five, 5, tree, 128, salt, root)?;
-    counted(out, b"count 130", five, 5, tree, 130, salt, root)?;
-    let no_block = b"index of no block";
-    let no_tree = b"index of no block, no tree";
-    let no_root = b"count 0, no root digest";
-    let none = span(tree, 0, 0);
-    counted(out, no_block, five, 129, tree, COUNT, salt, root)?;
-    counted(out, no_tree, five, 129, none, COUNT, salt, root)?;
-    counted(out, no_root, five, 0, tree, 0, salt, span(root, 0, 0))
+fn ranges<W: Write>(out: &mut W, five: Loans) -> io::Result<()> {
+    let none = Loans {
+        index: 0,
+        count: 0,
+        ..five
+    };
+    let outside = Loans {
+        index: COUNT,
+        ..five
+    };
+    verified(out, b"count 0", none)?;
+    verified(
+        out,
+        b"count 16385",
+        Loans {
+            count: 16385,
+            ..five
+        },
+    )?;
+    verified(out, b"count 128", Loans { count: 128, ..five })?;
+    verified(out, b"count 130", Loans { count: 130, ..five })?;
+    verified(out, b"index of no block", outside)?;
+    verified(
+        out,
+        b"index of no block, no tree",
+        Loans {
+            tree: &[],
+            ..outside
+        },
+    )?;
+    verified(out, b"count 0, no root digest", Loans { root: &[], ..none })
 }
 
 // The answer to building, with a tree loan of three blocks.
@@ -302,57 +319,56 @@ fn building<W: Write>(out: &mut W, image: &[u8], salts: &[u8]) -> io::Result<()>
 }
 
 // One data block: its own digest is the root digest, and no hash block stands above it.
-fn one_block<W: Write>(out: &mut W, only: &[u8], salts: &[u8]) -> io::Result<()> {
+fn one_block<W: Write>(out: &mut W, block: &[u8], salts: &[u8]) -> io::Result<()> {
     let salt = span(salts, 0, 8);
-    let mut tree = [0u8; DIGEST_SIZE];
-    let root = only_root(only, salt, &mut tree);
-    one_verified(out, only, salts, &root)?;
-    digests(
-        out,
-        b"one block, bit of it",
-        b"one block, bit of the root digest",
-        only,
-        0,
-        span(only, 0, 0),
-        1,
+    let root = tree::build(1, salt, block, &mut []).unwrap_or([0; DIGEST_SIZE]);
+    let only = Loans {
+        block,
+        index: 0,
+        tree: &[],
+        count: 1,
         salt,
-        &root,
-    )?;
-    one_built(out, only, salt)
+        root: &root,
+    };
+    one_verified(out, salts, only)?;
+    block_bit(out, b"one block, bit of it", only)?;
+    root_bit(out, b"one block, bit of the root digest", only)?;
+    one_built(out, block, salt)
 }
 
 // Its salt, its index and the length of its tree.
-fn one_verified<W: Write>(out: &mut W, only: &[u8], salts: &[u8], root: &[u8]) -> io::Result<()> {
-    let salt = span(salts, 0, 8);
+fn one_verified<W: Write>(out: &mut W, salts: &[u8], only: Loans) -> io::Result<()> {
     let other = span(salts, 1, 9);
-    let none = span(only, 0, 0);
-    let byte = span(only, 0, 1);
-    let index_1 = b"one block, index 1, tree of a hash block";
-    let hash_block = b"one block, tree of a hash block";
-    single(out, b"one block", only, 0, none, salt, root)?;
-    single(out, b"one block, other salt", only, 0, none, other, root)?;
-    single(out, b"one block, index 1", only, 1, none, salt, root)?;
-    single(out, index_1, only, 1, only, salt, root)?;
-    single(out, b"one block, tree of a byte", only, 0, byte, salt, root)?;
-    single(out, hash_block, only, 0, only, salt, root)
-}
-
-// The root digest that is built with none of the tree's bytes lent.
-fn only_root(only: &[u8], salt: &[u8], tree: &mut [u8]) -> [u8; DIGEST_SIZE] {
-    tree::build(1, salt, only, &mut tree[..0]).unwrap_or([0; DIGEST_SIZE])
-}
-
-// The answer for the only data block.
-fn single<W: Write>(
-    out: &mut W,
-    name: &[u8],
-    block: &[u8],
-    index: usize,
-    tree: &[u8],
-    salt: &[u8],
-    root: &[u8],
-) -> io::Result<()> {
-    counted(out, name, block, index, tree, 1, salt, root)
+    let byte = span(only.block, 0, 1);
+    let hash_block = Loans {
+        tree: only.block,
+        ..only
+    };
+    let both = b"one block, index 1, tree of a hash block";
+    verified(out, b"one block", only)?;
+    verified(
+        out,
+        b"one block, other salt",
+        Loans {
+            salt: other,
+            ..only
+        },
+    )?;
+    verified(out, b"one block, index 1", Loans { index: 1, ..only })?;
+    verified(
+        out,
+        both,
+        Loans {
+            index: 1,
+            ..hash_block
+        },
+    )?;
+    verified(
+        out,
+        b"one block, tree of a byte",
+        Loans { tree: byte, ..only },
+    )?;
+    verified(out, b"one block, tree of a hash block", hash_block)
 }
 
 // Building over one data block with a tree loan that is not empty.

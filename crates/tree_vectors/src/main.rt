@@ -10,8 +10,6 @@
 mod damage;
 mod report;
 
-ghost use Rattle.std.specs.Prelude.{◌≤◌};
-
 use digest::DIGEST_SIZE;
 use std::io::{self, BufWriter, Write};
 use tree_path::places::BLOCK_SIZE;
@@ -60,44 +58,36 @@ pub(crate) fn span(s: &[u8], from: usize, to: usize) -> &[u8] {
 
 fn trees<W: Write>(out: &mut W, image: &[u8], salt: &[u8]) -> io::Result<()> {
     let mut tree = [0u8; TREE];
-    salts(out, image, salt, 1, &mut tree, 0)?;
-    salts(out, image, salt, 2, &mut tree, 1)?;
-    salts(out, image, salt, 127, &mut tree, 1)?;
-    salts(out, image, salt, 128, &mut tree, 1)?;
-    salts(out, image, salt, 129, &mut tree, 3)?;
-    salts(out, image, salt, 300, &mut tree, 4)
+    for count in [1, 2, 127, 128, 129, 300] {
+        salts(out, image, salt, count, &mut tree)?;
+    }
+    Ok(())
 }
 
-// The trees, of this many hash blocks, over this many blocks of the image, with each salt.
+// The trees over this many blocks of the image, with each salt.
 fn salts<W: Write>(
     out: &mut W,
     image: &[u8],
     salt: &[u8],
     count: usize,
     tree: &mut [u8],
-    blocks: usize,
-) -> io::Result<()>
-    requires { (count ≤ 300) × (blocks ≤ 4) }
-{
-    let all = span(image, 0, count * BLOCK_SIZE);
+) -> io::Result<()> {
+    let all = span(image, 0, count.saturating_mul(BLOCK_SIZE));
     for size in [0, 8, 32] {
-        vector(out, all, span(salt, 0, size), count, tree, blocks)?;
+        vector(out, all, span(salt, 0, size), count, tree)?;
     }
     Ok(())
 }
 
-// One tree, made in the first blocks of the loan.
+// One tree, made in the first bytes of the loan.
 fn vector<W: Write>(
     out: &mut W,
     image: &[u8],
     salt: &[u8],
     count: usize,
     tree: &mut [u8],
-    blocks: usize,
-) -> io::Result<()>
-    requires { blocks ≤ 4 }
-{
-    match tree.get_mut(..blocks * BLOCK_SIZE) {
+) -> io::Result<()> {
+    match tree.get_mut(..tree::length(count)) {
         Some(part) => line(out, image, salt, count, part),
         None => Ok(()),
     }
