@@ -10,13 +10,12 @@ ghost use Rattle.c_setup.specs.Setup.{layout_with};
 ghost use Rattle.c_keyed.specs.Keyed.{format_keyed_call, open_keyed_call, write_keyed_call, read_keyed_call, verify_keyed_call};
 
 use c_numbers::{answer_size, refuse, volume_state_size, wrong_length};
-use c_replies::{
-    format_reply, open_reply, put_opened, put_reply, read_reply, verify_reply, write_reply,
-};
-use c_volume_state::{decode, encode, encodes_state};
+use c_replies::{open_reply, plain_reply, put_opened, put_reply};
+use c_volume_state::{decode, encode};
 use on_disk::Layout;
 
 // Formats a volume for a layout. Refused where the answer's buffer has a wrong length, or as formatting is.
+#[tactic(auto, unfolding(crate::specs::Keyed::format_keyed_call, c_numbers::specs::Called::called))]
 pub fn format_keyed(
     v: &mut [u8],
     reserved: usize,
@@ -34,17 +33,18 @@ pub fn format_keyed(
         return wrong_length();
     }
     let g = Layout {
-        reserved: reserved,
-        shift: shift,
-        width: width,
-        sections: sections,
-        provided: provided,
+        reserved,
+        shift,
+        width,
+        sections,
+        provided,
     };
     let said = volume::format::format_keyed(v, g, key);
-    put_reply(format_reply(said), answer)
+    put_reply(plain_reply(said), answer)
 }
 
 // Opens a volume: its state, and an empty batch in staging. Refused where the answer's or the state's buffer has a wrong length, or as opening is.
+#[tactic(auto, unfolding(crate::specs::Keyed::open_keyed_call, c_numbers::specs::Called::called))]
 pub fn open_keyed(
     v: &[u8],
     staging: &mut [u8],
@@ -69,6 +69,7 @@ pub fn open_keyed(
 
 // Adds a sector's bytes to the batch in staging. Refused where the answer's buffer has a wrong length, where the state's buffer holds no
 // state, or as writing is.
+#[tactic(auto, unfolding(crate::specs::Keyed::write_keyed_call, c_numbers::specs::Called::called))]
 pub fn write_keyed(
     state: &mut [u8],
     staging: &mut [u8],
@@ -83,18 +84,17 @@ pub fn write_keyed(
     if answer.len() != answer_size() {
         return wrong_length();
     }
-    if !encodes_state(state) {
+    let Some(mut s) = decode(state) else {
         return refuse(answer);
-    }
-    let written = volume::write::write_keyed(decode(state), staging, sector, bytes, key);
-    let next = written.state;
-    encode(next, state);
-    let said = written.answer;
-    put_reply(write_reply(said), answer)
+    };
+    let said = volume::write::write_keyed(&mut s, staging, sector, bytes, key);
+    encode(s, state);
+    put_reply(plain_reply(said), answer)
 }
 
 // Reads a sector's bytes into a buffer. Refused where the answer's buffer has a wrong length, where the state's buffer holds no state, or as
 // reading is.
+#[tactic(auto, unfolding(crate::specs::Keyed::read_keyed_call, c_numbers::specs::Called::called))]
 pub fn read_keyed(
     state: &[u8],
     v: &[u8],
@@ -110,14 +110,15 @@ pub fn read_keyed(
     if answer.len() != answer_size() {
         return wrong_length();
     }
-    if !encodes_state(state) {
+    let Some(s) = decode(state) else {
         return refuse(answer);
-    }
-    let said = volume::read::read_keyed(decode(state), v, staging, sector, bytes, key);
-    put_reply(read_reply(said), answer)
+    };
+    let said = volume::read::read_keyed(s, v, staging, sector, bytes, key);
+    put_reply(plain_reply(said), answer)
 }
 
 // Verifies so many sectors. Refused where the answer's buffer has a wrong length, where the state's buffer holds no state, or as verifying is.
+#[tactic(auto, unfolding(crate::specs::Keyed::verify_keyed_call, c_numbers::specs::Called::called))]
 pub fn verify_keyed(
     state: &[u8],
     v: &[u8],
@@ -132,9 +133,9 @@ pub fn verify_keyed(
     if answer.len() != answer_size() {
         return wrong_length();
     }
-    if !encodes_state(state) {
+    let Some(s) = decode(state) else {
         return refuse(answer);
-    }
-    let said = volume::verify::verify_keyed(decode(state), v, first, count, key);
-    put_reply(verify_reply(said), answer)
+    };
+    let said = volume::verify::verify_keyed(s, v, first, count, key);
+    put_reply(plain_reply(said), answer)
 }

@@ -1,3 +1,2 @@
--- The theorem is in Refusals; Calls is what the proofs of the functions, and of those with a key, cite.
+-- The theorem, whose lemmas the calls with a key cite too.
 pub mod Refusals
-pub mod Calls

@@ -11,10 +11,11 @@ ghost use Rattle.std.specs.Prelude.{◌≡◌};
 ghost use Rattle.c_setup.specs.Setup.{layout_with, format_call, query_call, open_call};
 
 use c_numbers::{answer_size, layout_size, refuse, volume_state_size, wrong_length};
-use c_replies::{format_reply, open_reply, put_held, put_opened, put_reply, query_reply};
+use c_replies::{open_reply, plain_reply, put_held, put_opened, put_reply, query_reply};
 use on_disk::Layout;
 
 // Formats a volume for a layout. Refused where the answer's buffer has a wrong length, or as formatting is.
+#[tactic(auto, unfolding(crate::specs::Setup::format_call, c_numbers::specs::Called::called))]
 pub fn format(
     v: &mut [u8],
     reserved: usize,
@@ -31,18 +32,19 @@ pub fn format(
         return wrong_length();
     }
     let g = Layout {
-        reserved: reserved,
-        shift: shift,
-        width: width,
-        sections: sections,
-        provided: provided,
+        reserved,
+        shift,
+        width,
+        sections,
+        provided,
     };
     let said = volume::format::format(v, g);
-    put_reply(format_reply(said), answer)
+    put_reply(plain_reply(said), answer)
 }
 
 // The numbers that a volume's superblock holds, and the bytes that staging must have. Refused where the answer's or the layout's buffer has a
 // wrong length, or as querying is.
+#[tactic(auto, unfolding(crate::specs::Setup::query_call, c_numbers::specs::Called::called))]
 pub fn query(v: &[u8], reserved: usize, layout: &mut [u8], answer: &mut [u8]) -> u32
     ensures { record { number = result; left = layout.new; answer = answer.new }
         ≡ query_call v.now reserved layout.old answer.old }
@@ -59,6 +61,7 @@ pub fn query(v: &[u8], reserved: usize, layout: &mut [u8], answer: &mut [u8]) ->
 }
 
 // Opens a volume: its state, and an empty batch in staging. Refused where the answer's or the state's buffer has a wrong length, or as opening is.
+#[tactic(auto, unfolding(crate::specs::Setup::open_call, c_numbers::specs::Called::called))]
 pub fn open(
     v: &[u8],
     staging: &mut [u8],
