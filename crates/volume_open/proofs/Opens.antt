@@ -3,7 +3,7 @@ use Prim.Native.Nat.{ℕ, suc, ◌+◌, ◌*◌, ◌≤◌, ◌<◌}
 use mathlib.Core.Bool.{Bool, true, false, not}
 use mathlib.Core.List.{List, [], ◌∷◌}
 use mathlib.Core.Logic.{◌≢◌}
-use mathlib.Core.Path.{◌≡◌, sym, ap, ◌∙◌, subst}
+use mathlib.Core.Path.{◌≡◌, refl, sym, ap, ◌∙◌, subst}
 use lib.Dec.{eqb}
 use lib.ListN.{length}
 use borrow.Author.Tests.{eq-eqb, ne_eqb}
@@ -18,7 +18,9 @@ use Rattle.model.specs.declared.Refusal.{Refusal}
 use Rattle.on_disk.specs.Layout.{needed, layout_ok}
 use Rattle.on_disk.specs.Superblock.{superblock_at, layout_in}
 use Rattle.on_disk.specs.Section.{empty_section}
-use Rattle.octets.specs.Lists.{all_below, first_below}
+use native.Mathlib.Omega.{arith}
+use Rattle.octets.specs.Lists.{all_below, first_below, if_below}
+use Rattle.octets.proofs.Lists.{some-below, none-below}
 use Rattle.model.specs.Journal.{greatest_id, replay}
 use Rattle.model.specs.Store.{steps_of}
 use Rattle.model.specs.Tag.{Tags}
@@ -29,7 +31,7 @@ use Rattle.sound.specs.declared.tag.Rule.{Rule}
 use Rattle.sound.specs.Rule.{tag_by, keyed_of}
 use Rattle.sound.proofs.Rules.{keyed-tags}
 use Rattle.model.specs.Refusal.{refusal_of, plain_answer}
-use Rattle.std.proofs.Common.{Result, Ok, Err}
+use Rattle.std.proofs.Common.{Option, Some, None, Result, Ok, Err}
 use Rattle.model.specs.State.{Verdict, passed, last_id, volume_loan_ok, staging_ok}
 use Rattle.model.specs.Open.{misplaced, superblock_rows, entries_verdict, phase_for, OpenResult, open_by, open_with, open_of}
 use Rattle.model.specs.Query.{query_of}
@@ -69,18 +71,21 @@ module _ (tags : Tags) (g : Layout) (r : ℕ) (v st : List ℕ) where
       pub exhausted : n ≡ last_id → record { answer = refuse 10 []; staging = st } ≡ open_with tags g r v st
       exhausted e = sym (behind ∙ rw (staging, eq-eqb (greatest_id g v) last_id (sym greatest ∙ e)))
 
-      module _ (more : n ≢ last_id) (m : ℕ) (first : m ≡ first_below (suc g.sections) (misplaced g v)) where
+      module _ (more : n ≢ last_id) (m : Option ℕ) (first : m ≡ if_below g.sections (first_below (suc g.sections) (misplaced g v))) where
         ids-left : eqb (greatest_id g v) last_id ≡ false
         ids-left = ne_eqb (greatest_id g v) last_id (λ e. more (greatest ∙ e))
 
-        pub section-misplaced : m < g.sections → record { answer = refuse 11 (m ∷ []); staging = st } ≡ open_with tags g r v st
-        section-misplaced l =
-            let found = some_below (misplaced g v) g.sections m first l in
+        pub section-misplaced : (k : ℕ) → m ≡ Some k → record { answer = refuse 11 (k ∷ []); staging = st } ≡ open_with tags g r v st
+        section-misplaced k e =
+            let at = some-below g.sections (first_below (suc g.sections) (misplaced g v)) k (sym first ∙ e) in
+            let found = some_below (misplaced g v) g.sections k at.0 (omega arith) in
             sym (behind ∙ rw (staging, ids-left, found.0) (ap (λ (k : ℕ). record { answer = refuse 11 (k ∷ []); staging = st }) (sym found.1)))
 
-        module _ (some : 0 < g.sections) (last : g.sections ≤ m) (c : Result (Unit {0}) Refusal) (is : plain_answer c ≡ entries_verdict (tags g.width) g (replay g v)) where
+        module _ (some : 0 < g.sections) (none : m ≡ None) (c : Result (Unit {0}) Refusal) (is : plain_answer c ≡ entries_verdict (tags g.width) g (replay g v)) where
           in_place : all_below g.sections (λ k. not (misplaced g v k)) ≡ true
-          in_place = none_below (misplaced g v) g.sections m first some last
+          in_place =
+              let last = none-below g.sections (first_below (suc g.sections) (misplaced g v)) (sym first ∙ none) in
+              none_below (misplaced g v) g.sections (first_below (suc g.sections) (misplaced g v)) refl some last
 
           pub entry-refused : (x : Refusal) → c ≡ Err x → record { answer = refused (refusal_of x); staging = st } ≡ open_with tags g r v st
           entry-refused x e =

@@ -103,8 +103,8 @@ fn open_journal(rule: Rule, v: &[u8], st: &mut [u8], g: Layout) -> Result<Opened
     if greatest == LAST_ID {
         return Err(Refusal::Exhausted);
     }
-    if misplaced < g.sections {
-        return Err(Refusal::Misplaced(misplaced));
+    if let Some(k) = misplaced {
+        return Err(Refusal::Misplaced(k));
     }
     check_replay(rule, &ids, v, g)?;
     clear_staging(st, g.width);

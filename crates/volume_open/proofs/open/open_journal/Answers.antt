@@ -5,6 +5,7 @@ use Rattle.model.specs.declared.Opened.{Opened}
 use Rattle.model.specs.declared.Refusal.{Refusal}
 use Rattle.model.specs.Refusal.{open_answer}
 use Rattle.layout.proofs.Sizes.{width-high, sections-low}
+use Rattle.octets.specs.Lists.{if_below}
 use Rattle.sound.specs.Rule.{tag_by}
 use Rattle.journal.proofs.Scans.{misplaced-first}
 use Rattle.model.proofs.States.{staging-length}
@@ -25,12 +26,12 @@ returns-then-greatest c =
     exhausted (tag_by a.rule) a.g a.g.reserved a.v.now a.st.now c.requires.2 (sym c.staging_ok.ensures ∙ c.if-not-staging_ok.false)
     c.greatest_id-greatest.result c.greatest_id-greatest.ensures c.if-greatest.true
 
-pub returns-then-misplaced-g : goal.returns-then-misplaced-g
-returns-then-misplaced-g c =
+pub returns-in-Some : goal.returns-in-Some
+returns-in-Some c =
     let a = c.args in
     section-misplaced (tag_by a.rule) a.g a.g.reserved a.v.now a.st.now c.requires.2 (sym c.staging_ok.ensures ∙ c.if-not-staging_ok.false)
     c.greatest_id-greatest.result c.greatest_id-greatest.ensures
-    c.if-greatest.false c.first_misplaced-misplaced.result (c.first_misplaced-misplaced.ensures ∙ misplaced-first a.g a.v.now c.requires.0 _ c.scan.ensures) c.if-misplaced-g.true
+    c.if-greatest.false c.first_misplaced-misplaced.result (c.first_misplaced-misplaced.ensures ∙ ap (if_below a.g.sections) (misplaced-first a.g a.v.now c.requires.0 _ c.scan.ensures)) c.in-Some.k c.in-Some.is
 
 pub check_replay-requires : goal.check_replay-requires
 check_replay-requires c = (c.requires.0, c.requires.1, c.scan.ensures)
@@ -42,7 +43,7 @@ returns-in_err-check_replay c =
     ap (λ (x : Result Opened Refusal). record { answer = open_answer x; staging = a.st.now }) same
     ∙ entry-refused (tag_by a.rule) a.g a.g.reserved a.v.now a.st.now c.requires.2 (sym c.staging_ok.ensures ∙ c.if-not-staging_ok.false)
     c.greatest_id-greatest.result c.greatest_id-greatest.ensures c.if-greatest.false
-    c.first_misplaced-misplaced.result (c.first_misplaced-misplaced.ensures ∙ misplaced-first a.g a.v.now c.requires.0 _ c.scan.ensures) (sections-low a.g c.requires.0) c.if-misplaced-g.false
+    c.first_misplaced-misplaced.result (c.first_misplaced-misplaced.ensures ∙ ap (if_below a.g.sections) (misplaced-first a.g a.v.now c.requires.0 _ c.scan.ensures)) (sections-low a.g c.requires.0) c.in_default.is
     c.check_replay.result c.check_replay.ensures _ c.in_err-check_replay.was
 
 pub clear_staging-requires : goal.clear_staging-requires
@@ -58,7 +59,7 @@ returns c =
     let a = c.args in
     opened (tag_by a.rule) a.g a.g.reserved a.v.now a.st.now c.requires.2 (sym c.staging_ok.ensures ∙ c.if-not-staging_ok.false)
     c.greatest_id-greatest.result c.greatest_id-greatest.ensures c.if-greatest.false
-    c.first_misplaced-misplaced.result (c.first_misplaced-misplaced.ensures ∙ misplaced-first a.g a.v.now c.requires.0 _ c.scan.ensures) (sections-low a.g c.requires.0) c.if-misplaced-g.false
+    c.first_misplaced-misplaced.result (c.first_misplaced-misplaced.ensures ∙ ap (if_below a.g.sections) (misplaced-first a.g a.v.now c.requires.0 _ c.scan.ensures)) (sections-low a.g c.requires.0) c.in_default.is
     c.check_replay.result c.check_replay.ensures c.in_ok-check_replay.was
     c.clear_staging.new.st c.clear_staging.ensures
     c.count_steps-stores.result c.count_steps-stores.ensures c.phase_for.result c.phase_for.ensures
