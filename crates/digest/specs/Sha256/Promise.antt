@@ -104,5 +104,10 @@ digest-taken m fits = rw (le-ltb limit (length m) fits)
 
 -- and what the code returns for it
 pub digest-given : (m : List ℕ) (r : Result (List ℕ) TooLong) → length m ≤ limit → closed r ≡ digest_of m → r ≡ Ok (sha256 m)
-digest-given m (Ok d) fits e = ap (λ (o : DigestOutcome). Ok o.digest) (e ∙ digest-taken m fits)
-digest-given m (Err x) fits e = absurd (let z : ◌≡◌ {A = ℕ} 1 0 = ap (λ (o : DigestOutcome). number_in o.answer) (e ∙ digest-taken m fits) in omega arith)
+unfolding digest_of
+digest-given m (Ok d) fits e =
+    let whole : digest_of m ≡ record { answer = taken tt; digest = sha256 m } = rw (le-ltb limit (length m) fits) in
+    ap (λ (o : DigestOutcome). Ok o.digest) (e ∙ whole)
+digest-given m (Err x) fits e =
+    let whole : digest_of m ≡ record { answer = taken tt; digest = sha256 m } = rw (le-ltb limit (length m) fits) in
+    absurd (let z : ◌≡◌ {A = ℕ} 1 0 = ap (λ (o : DigestOutcome). number_in o.answer) (e ∙ whole) in omega arith)
