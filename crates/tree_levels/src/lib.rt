@@ -34,6 +34,7 @@ pub fn fill(tree: &mut [u8], n: usize, salt: &[u8], image: &[u8]) -> [u8; DIGEST
     let mut first = places::first_block(h - 1, n);
     fill_level(&mut tree[first * places::BLOCK_SIZE..], salt, image, n);
     let mut m = places::parents(n);
+    // A level ends where the one below it, whose blocks it has the digests of, begins.
     for left in (0..h - 1).rev() {
         let (above, below) = tree.split_at_mut(first * places::BLOCK_SIZE);
         first = places::first_block(left, m);

@@ -59,17 +59,17 @@ loop-left-init c =
 pub slice_bounds-fill_level-count-in-loop-left : goal.slice_bounds-fill_level-count-in-loop-left
 slice_bounds-fill_level-count-in-loop-left c =
     let turn = c.loop-left in
-    omega (arith, joins turn.left turn.m c.first_block-first-in-loop-left.result turn.first c.loop-left-test.true c.first_block-first-in-loop-left.ensures.0 turn.invariant.2.place, c.split_at_mut-above.ensures.front_len)
+    omega (arith, joins turn.left turn.m c.first_block-first-in-loop-left.result turn.first (omega arith) c.first_block-first-in-loop-left.ensures.0 turn.invariant.2.place, c.split_at_mut-above.ensures.front_len)
 
 pub slice_bounds-fill_level-start-in-loop-left : goal.slice_bounds-fill_level-start-in-loop-left
 slice_bounds-fill_level-start-in-loop-left c =
     let turn = c.loop-left in
-    omega (arith, joins turn.left turn.m c.first_block-first-in-loop-left.result turn.first c.loop-left-test.true c.first_block-first-in-loop-left.ensures.0 turn.invariant.2.place, c.split_at_mut-above.ensures.front_len)
+    omega (arith, joins turn.left turn.m c.first_block-first-in-loop-left.result turn.first (omega arith) c.first_block-first-in-loop-left.ensures.0 turn.invariant.2.place, c.split_at_mut-above.ensures.front_len)
 
 pub fill_level-requires-in-loop-left : goal.fill_level-requires-in-loop-left
 fill_level-requires-in-loop-left c =
     let turn = c.loop-left in
-    let next = joins turn.left turn.m c.first_block-first-in-loop-left.result turn.first c.loop-left-test.true c.first_block-first-in-loop-left.ensures.0 turn.invariant.2.place in
+    let next = joins turn.left turn.m c.first_block-first-in-loop-left.result turn.first (omega arith) c.first_block-first-in-loop-left.ensures.0 turn.invariant.2.place in
     let parts = c.split_at_mut-above.ensures in
     let above = length-rest c.split_at_mut-above.result.0.now (c.first_block-first-in-loop-left.result * block_size) in
     let below = length-take-le (turn.m * block_size) c.split_at_mut-above.result.1.now (omega (arith, parts.back_len, turn.invariant.2.fits)) in
@@ -79,7 +79,7 @@ pub loop-left-preserved : goal.loop-left-preserved
 loop-left-preserved c =
     let turn = c.loop-left in
     let first = c.first_block-first-in-loop-left.result in
-    let next = joins turn.left turn.m first turn.first c.loop-left-test.true c.first_block-first-in-loop-left.ensures.0 turn.invariant.2.place in
+    let next = joins turn.left turn.m first turn.first (omega arith) c.first_block-first-in-loop-left.ensures.0 turn.invariant.2.place in
     let parts = c.split_at_mut-above.ensures in
     let above = c.split_at_mut-above.result.0.now in
     let below = c.split_at_mut-above.result.1.now in
@@ -87,7 +87,7 @@ loop-left-preserved c =
     let size = ap length made ∙ length-level c.args.salt.now turn.m _ in
     let put = written-above turn.tree above below (first * block_size) (turn.first * block_size) _ c.fill_level-in-loop-left.new.level _
     (omega (arith, turn.invariant.2.fits)) parts.front parts.back refl (omega (arith, size, next)) made in
-    let reached = reached-turn turn.left _ c.args.salt.now turn.m c.parents-m-in-loop-left.result turn.first first turn.tree _ _ _ c.loop-left-test.true refl
+    let reached = reached-turn turn.left _ c.args.salt.now turn.m c.parents-m-in-loop-left.result turn.first first turn.tree _ _ _ (omega arith) refl
     c.parents-m-in-loop-left.ensures.0 c.first_block-first-in-loop-left.ensures.0 turn.invariant.2 put in
     (omega (arith, turn.invariant.0), omega (arith, turn.invariant.1, c.parents-m-in-loop-left.ensures), reached)
 
