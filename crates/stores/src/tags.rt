@@ -32,13 +32,13 @@ pub fn tag_piece(g: Layout, sector: usize, h: usize) -> TagPiece
     if first < g.width {
         return TagPiece {
             from: 0,
-            byte: byte,
+            byte,
             size: first,
         };
     }
     TagPiece {
         from: 0,
-        byte: byte,
+        byte,
         size: g.width,
     }
 }
