@@ -1,7 +1,11 @@
 use mathlib.Core.Path.{◌≡◌, sym, ap, ◌∙◌}
 use native.Mathlib.Omega.{arith}
 use Rattle.std.proofs.Common.{Result, Err}
+use mathlib.Core.Bool.{true}
+use borrow.Author.Rules.{rules}
 use Rattle.octets.specs.Answer.{is_taken}
+use Rattle.hmac.specs.Hmac.{key_ok}
+use Rattle.model.specs.Keyed.{format_keyed_of}
 use Rattle.model.specs.Refusal.{plain_answer}
 use Rattle.model.specs.Format.{FormatResult}
 use Rattle.model.specs.declared.Refusal.{Refusal}
@@ -17,9 +21,11 @@ returns-in_err-format_keyed c =
 pub events-requires : goal.events-requires
 events-requires c =
     let a = c.args in
-    key-taken a.key.now a.g a.v.now
-    (sym (ap (λ (o : FormatResult). is_taken o.answer) c.format_keyed.ensures)
-    ∙ ap (λ (y : Result (Unit {0}) Refusal). is_taken (plain_answer y)) c.in_ok-format_keyed.was)
+    let taken : is_taken (format_keyed_of a.key.now a.g a.v.now).answer ≡ true =
+    sym (ap (λ (o : FormatResult). is_taken o.answer) c.format_keyed.ensures)
+    ∙ ap (λ (y : Result (Unit {0}) Refusal). is_taken (plain_answer y)) c.in_ok-format_keyed.was in
+    let fits : key_ok a.key.now ≡ true = key-taken a.key.now a.g a.v.now taken in
+    search rules
 
 pub returns : goal.returns
 returns c =
