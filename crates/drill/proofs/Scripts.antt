@@ -1,49 +1,39 @@
--- The events of a script: which kinds change nothing. Then the whole list, event by event.
-use Prim.Native.Nat.{ℕ, ◌+◌}
-use mathlib.Core.Bool.{true}
+-- A list of events, event by event; and the event that four bytes of a script are.
+use Prim.Native.Nat.{ℕ, ◌+◌, ◌*◌}
 use mathlib.Core.List.{List, [], ◌∷◌, ◌++◌}
-use mathlib.Core.Logic.{◌≢◌}
-use mathlib.Core.Path.{◌≡◌, refl}
+use mathlib.Core.Path.{◌≡◌, refl, sym, ap, ◌∙◌}
+use native.Mathlib.Nat.{add-zero}
 use native.Mathlib.Numerals.{add-one}
-use lib.ListN.{replicate}
-use lib.Dec.{eqb}
-use borrow.Author.Tests.{eqb-true}
-use Rattle.octets.specs.Sectors.{sector_size}
-use Rattle.model.specs.Medium.{medium_of, volume_in}
-use Rattle.model.specs.World.{Event, a_read, Live, off, on, World, resting, happens, next, after}
-use Rattle.model.specs.declared.State.{State}
-use Rattle.drill.specs.Script.{event_rows, event_of, event_at, events_up_to}
+use native.Mathlib.Omega.{arith}
+use lib.ListN.{length, get_or, take, drop}
+use lib.Seq.{take_at}
+use Rattle.std.proofs.lemmas.List.{drop_at}
+use Rattle.std.proofs.Common.{drop-drop}
+use Rattle.std.specs.Prelude.{Option}
+use Rattle.octets.specs.Numbers.{value}
+use Rattle.octets.specs.Parts.{part}
+use Rattle.octets.proofs.Parts.{get_or-part, part-part}
+use Rattle.model.specs.Medium.{volume_in}
+use Rattle.model.specs.World.{Event, World, next, after}
+use Rattle.drill.specs.Script.{event_size, kind_of, event_by, event_of, event_at, events_up_to}
 use Rattle.drill.specs.Played.{setting, staging_next, staging_after}
-use Rattle.drill.proofs.Rows.{each}
 
--- ---- events that change nothing
+-- a turn of the loop over the events: i of them are played, the next is in the bytes c, and s is left behind it
+module _ (i : ℕ) (script r c s : List ℕ) (er : r ≡ drop (4 * i) script) (e : r ≡ c ++ s) (size : length c ≡ 4) where
+  pub rest-turn : s ≡ drop (4 * (i + 1)) script
+  rest-turn =
+      let n : 4 * (i + 1) ≡ 4 * i + 4 = omega arith in
+      let behind : drop 4 r ≡ s = ap (drop 4) e ∙ drop_at c s 4 size in
+      rw (n, ← drop-drop, ← er) (sym behind)
 
-abbrev Still : List ℕ → ℕ → List ℕ → Live → List ℕ → Event → Type 0
-Still key r v x st e = ((happens (setting key r) (medium_of v) x e).world ≡ resting (medium_of v) x) × (staging_next key r v x st e ≡ st)
-
-module _ (key : List ℕ) (r n k s b : ℕ) (v st : List ℕ) where
-  not-kind : {A : Type 0} (c : ℕ) → k ≢ c → eqb k c ≡ true → A
-  not-kind c ne e = absurd (ne (eqb-true k c e))
-
-  -- while nothing is live, all but opens
-  pub still-off : k ≢ 1 → k ≢ 6 → k ≢ 9 → Still key r v off st (event_of n k s b)
+  pub is-event : (n : ℕ) → event_by n (kind_of (get_or c 0 0)) (value (part c 1 2)) (get_or c 3 0) ≡ event_at n script i
   unfolding event_of
-  still-off c d f =
-      each (Still key r v off st) (event_rows n k s b) (a_read s (replicate sector_size b))
-      (λ e. (refl, refl), (not-kind 1 c, (λ e. (refl, refl), (λ e. (refl, refl), (λ e. (refl, refl), (not-kind 6 d, (λ e. (refl, refl), (λ e. (refl, refl), (not-kind 9 f, (λ e. (refl, refl), (λ e. (refl, refl), tt)))))))))))
-      (refl, refl)
+  is-event n =
+      let at : 4 * i ≡ i * event_size = omega arith in
+      let block : c ≡ part script (i * event_size) 4 = rw at at (sym (ap (take 4) (sym er ∙ e) ∙ take_at c s 4 size)) in
+      rw (block, get_or-part script (i * event_size) 4 0 (omega arith), get_or-part script (i * event_size) 4 3 (omega arith), part-part script (i * event_size) 4 1 2 (omega arith), add-zero) refl
 
-  -- while a state is live, opens and reads
-  pub still-on : (x : State) → k ≢ 0 → k ≢ 2 → k ≢ 3 → k ≢ 4 → k ≢ 7 → k ≢ 10 → Still key r v (on x st) st (event_of n k s b)
-  unfolding event_of
-  still-on x c d f h i j =
-      each (Still key r v (on x st) st) (event_rows n k s b) (a_read s (replicate sector_size b))
-      (not-kind 0 c, (λ e. (refl, refl), (not-kind 2 d, (not-kind 3 f, (not-kind 4 h, (λ e. (refl, refl), (not-kind 7 i, (λ e. (refl, refl), (λ e. (refl, refl), (not-kind 10 j, (λ e. (refl, refl), tt)))))))))))
-      (refl, refl)
-
--- ---- one event more
-
-module _ (key : List ℕ) (r : ℕ) where
+module _ (key : Option (List ℕ)) (r : ℕ) where
   after_more : (w : World) (es : List Event) (e : Event) → after (setting key r) w (es ++ (e ∷ [])) ≡ next (setting key r) (after (setting key r) w es) e
   unfolding after
   after_more w [] e = refl

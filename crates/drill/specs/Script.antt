@@ -5,8 +5,9 @@
 -- event_size          : the bytes of an event: its kind, a logical sector (2, little-endian), a byte to fill loans with
 -- short_size          : a byte less than a sector has: a wrong length for every loan
 -- long_key b          : a key of bytes b, a byte longer than any that a call takes (R106)
--- event_rows n k s b  : the events of kind k, by rows of a test and an event; a kind that has none is a read
--- event_of n k s b    : the event of kind k with the sector s and the byte b, on a staging loan of n bytes
+-- kind_rows k         : the kinds, by rows of a test of their number and a kind; kind_of k: the kind with the number k, a read where there is none
+-- event_by n k s b    : the event of kind k with the sector s and the byte b, on a staging loan of n bytes
+-- event_of n k s b    : that of the kind with the number k
 -- event_at n script i : event i of a script
 -- events_of n script  : all of them. Any bytes are a script: fewer than an event has, at the end, are none
 use Rattle.std.specs.Prelude.{ℕ, ◌+◌, ◌-◌, ◌*◌, ◌/◌, Bool, false, ◌&&◌, List, [], ◌∷◌, ◌≡◌, length, get_or, take, replicate, leb, eqb}
@@ -18,6 +19,8 @@ use Rattle.octets.specs.Parts.{part}
 use Rattle.octets.specs.Sectors.{sector_size}
 use Rattle.octets.specs.Lists.{collect}
 use Rattle.hmac.specs.Hmac.{most_key, key_ok}
+use Rattle.drill.specs.declared.Kind.{Kind}
+use Rattle.drill.specs.declared.Kind.TheVariants.{Cut, Open, Write, Flush, Step, Read, ShortOpen, ShortWrite, ShortRead, LongKeyOpen, LongKeyWrite, LongKeyRead}
 use Rattle.model.specs.World.{Event, a_cut, an_open, a_write, a_flush, a_step, a_read, a_keyed_open, a_keyed_write, a_keyed_read}
 
 abbrev pub event_size : ℕ
@@ -33,23 +36,40 @@ pub long-key-refused : (b : ℕ) → key_ok (long_key b) ≡ false
 unfolding long_key
 long-key-refused b = ap (λ (n : ℕ). leb 1 n && leb n most_key) (length-replicate {A = ℕ} (most_key + 1) b)
 
-abbrev pub event_rows : ℕ → ℕ → ℕ → ℕ → List (Bool × Event)
-event_rows n k s b =
-    (eqb k 0, a_cut)
-    ∷ (eqb k 1, an_open (replicate n b))
-    ∷ (eqb k 2, a_write s (replicate sector_size b))
-    ∷ (eqb k 3, a_flush)
-    ∷ (eqb k 4, a_step)
-    ∷ (eqb k 6, an_open (take short_size (replicate n b)))
-    ∷ (eqb k 7, a_write s (replicate short_size b))
-    ∷ (eqb k 8, a_read s (replicate short_size b))
-    ∷ (eqb k 9, a_keyed_open (long_key b) (replicate n b) (long-key-refused b))
-    ∷ (eqb k 10, a_keyed_write (long_key b) s (replicate sector_size b) (long-key-refused b))
-    ∷ (eqb k 11, a_keyed_read (long_key b) s (replicate sector_size b) (long-key-refused b))
+abbrev pub kind_rows : ℕ → List (Bool × Kind)
+kind_rows k =
+    (eqb k 0, Cut)
+    ∷ (eqb k 1, Open)
+    ∷ (eqb k 2, Write)
+    ∷ (eqb k 3, Flush)
+    ∷ (eqb k 4, Step)
+    ∷ (eqb k 6, ShortOpen)
+    ∷ (eqb k 7, ShortWrite)
+    ∷ (eqb k 8, ShortRead)
+    ∷ (eqb k 9, LongKeyOpen)
+    ∷ (eqb k 10, LongKeyWrite)
+    ∷ (eqb k 11, LongKeyRead)
     ∷ []
 
+abbrev pub kind_of : ℕ → Kind
+kind_of k = first_met (kind_rows k) Read
+
+abbrev pub event_by : ℕ → Kind → ℕ → ℕ → Event
+event_by n Cut s b = a_cut
+event_by n Open s b = an_open (replicate n b)
+event_by n Write s b = a_write s (replicate sector_size b)
+event_by n Flush s b = a_flush
+event_by n Step s b = a_step
+event_by n Read s b = a_read s (replicate sector_size b)
+event_by n ShortOpen s b = an_open (take short_size (replicate n b))
+event_by n ShortWrite s b = a_write s (replicate short_size b)
+event_by n ShortRead s b = a_read s (replicate short_size b)
+event_by n LongKeyOpen s b = a_keyed_open (long_key b) (replicate n b) (long-key-refused b)
+event_by n LongKeyWrite s b = a_keyed_write (long_key b) s (replicate sector_size b) (long-key-refused b)
+event_by n LongKeyRead s b = a_keyed_read (long_key b) s (replicate sector_size b) (long-key-refused b)
+
 unfoldable pub event_of : ℕ → ℕ → ℕ → ℕ → Event
-event_of n k s b = first_met (event_rows n k s b) (a_read s (replicate sector_size b))
+event_of n k s b = event_by n (kind_of k) s b
 
 abbrev pub event_at : ℕ → List ℕ → ℕ → Event
 event_at n script i = event_of n (get_or script (i * event_size) 0) (value (part script (i * event_size + 1) 2)) (get_or script (i * event_size + 3) 0)

@@ -1,55 +1,66 @@
 // Drills: a script of calls and cuts, played on a lent volume by the volume's own calls: R58 to R60.
 //
 // `play`, and `play_keyed` under a key, leave the world that the model's definitions give for the same list, so what demand 3 (R5) says of every list holds
-// of what ran. A script is
-// bytes, four to an event: its kind, a logical sector (2 bytes, little-endian), and a byte that fills the loans of the call. Any bytes are one.
-// Which lists a script can write is in specs/Script.antt.
+// of what ran. A script is bytes, four to an event: the number of its kind, a logical sector (2 bytes, little-endian), and a byte that fills the loans of
+// the call. Any bytes are one. Which lists a script can write is in specs/Script.antt.
 #![tactic(auto)]
 
-ghost use Rattle.std.specs.Prelude.{ℕ, ◌≤◌, true, false, List, [], ◌≡◌, length, take, replicate};
-ghost use Rattle.octets.specs.Answer.{is_taken};
-ghost use Rattle.octets.specs.Parts.{patch};
-ghost use Rattle.hmac.specs.Hmac.{most_key};
-ghost use Rattle.model.specs.Open.{open_of};
-ghost use Rattle.model.specs.Refusal.{format_answer, open_answer};
+ghost use Rattle.std.specs.Prelude.{ℕ, ◌≡◌, true, List, Some, None, length, get_or, take, replicate, option_copied};
+ghost use Rattle.octets.specs.Numbers.{value};
+ghost use Rattle.octets.specs.Parts.{part, patch};
+ghost use Rattle.model.specs.Refusal.{plain_answer, open_answer};
 ghost use Rattle.model.specs.Format.{format_of};
-ghost use Rattle.model.specs.Keyed.{format_keyed_of, write_keyed_of};
+ghost use Rattle.model.specs.Keyed.{format_keyed_of};
 ghost use Rattle.model.specs.Tag.{tag_of};
+ghost use Rattle.model.specs.Flush.{flush_of};
 ghost use Rattle.model.specs.Medium.{medium_of};
 ghost use Rattle.model.specs.World.{off, on};
 ghost use Rattle.model.specs.World as lists;
-ghost use Rattle.model.specs.Write.{write_of};
-ghost use Rattle.drill.specs.Script.{short_size, event_of, events_of};
-ghost use Rattle.drill.specs.Played.{tags_for, setting, live_of, world_of, Turn, Ran, played_by, Plays};
+ghost use Rattle.drill.specs.Script.{event_size, short_size, kind_of, event_by, events_of};
+ghost use Rattle.drill.specs.Played.{key_fits, open_under, write_under, setting, at_rest, live_of, world_of, Turn, Ran, Plays};
 
-use model::{FormatAnswer, OpenAnswer, State};
+use model::{Opened, Refusal, State};
 use on_disk::Layout;
 use volume::SECTOR_SIZE;
 
-// The kinds of event; any other is a read. A short one is made with a loan of a wrong length, one with a long key with a key that no call takes.
-pub const CUT: u8 = 0;
+// The kinds of event. A short one is made with a loan of a wrong length, one with a long key with a key that no call takes.
+#[derive(Clone, Copy)]
+pub enum Kind {
+    Cut = 0,
+    Open = 1,
+    Write = 2,
+    Flush = 3,
+    Step = 4,
+    Read = 5,
+    ShortOpen = 6,
+    ShortWrite = 7,
+    ShortRead = 8,
+    LongKeyOpen = 9,
+    LongKeyWrite = 10,
+    LongKeyRead = 11,
+}
 
-pub const OPEN: u8 = 1;
+// The kind with a number; any that has none is a read's.
+impl From<u8> for Kind {
+    ghost from_gives = { λ n k. k ≡ kind_of n };
 
-pub const WRITE: u8 = 2;
-
-pub const FLUSH: u8 = 3;
-
-pub const STEP: u8 = 4;
-
-pub const READ: u8 = 5;
-
-pub const SHORT_OPEN: u8 = 6;
-
-pub const SHORT_WRITE: u8 = 7;
-
-pub const SHORT_READ: u8 = 8;
-
-pub const LONG_KEY_OPEN: u8 = 9;
-
-pub const LONG_KEY_WRITE: u8 = 10;
-
-pub const LONG_KEY_READ: u8 = 11;
+    fn from(n: u8) -> Kind {
+        match n {
+            0 => Kind::Cut,
+            1 => Kind::Open,
+            2 => Kind::Write,
+            3 => Kind::Flush,
+            4 => Kind::Step,
+            6 => Kind::ShortOpen,
+            7 => Kind::ShortWrite,
+            8 => Kind::ShortRead,
+            9 => Kind::LongKeyOpen,
+            10 => Kind::LongKeyWrite,
+            11 => Kind::LongKeyRead,
+            _ => Kind::Read,
+        }
+    }
+}
 
 // The bytes of a short loan, a byte less than a sector has: too few for any call.
 const SHORT_SIZE: usize = 511;
@@ -60,305 +71,242 @@ const LONG_KEY_SIZE: usize = 257;
 // The bytes of an event.
 pub const EVENT_SIZE: usize = 4;
 
-// What is live: nothing at first and after a cut, then the state that the last call handed back.
+// An event of a script.
 #[derive(Clone, Copy)]
-pub enum Live {
-    Off,
-    On(State),
+struct Event {
+    kind: Kind,
+    sector: usize,
+    fill: u8,
 }
 
-// What is live after an event, and whether that was an open that reports no store to come, or a step that says filling.
+// What all events share: the key, if calls have one, and the reserved sectors.
+#[derive(Clone, Copy)]
+struct Setting<'a> {
+    key: Option<&'a [u8]>,
+    reserved: usize,
+}
+
+// What is live after an event (nothing at first and after a cut, then the state that the last call left), and whether the event was an open that reports
+// no store to come, or a step that says filling.
 #[derive(Clone, Copy)]
 pub struct Moment {
-    pub live: Live,
+    pub live: Option<State>,
     pub settled: bool,
 }
 
-// What a drill hands back: format's answer, and what the last event left.
-#[derive(Clone, Copy)]
-pub struct Played {
-    pub format: FormatAnswer,
-    pub last: Moment,
-}
-
-// Formats the volume and, if that is taken, plays the script on it.
-pub fn play(g: Layout, script: &[u8], v: &mut [u8], st: &mut [u8]) -> Played
-    ensures { Plays [] g (format_of tag_of g v.old) script.now st.old result v.new st.new }
+// Formats the volume and, if that is taken, plays the script on it: what the last event left, or format's refusal.
+pub fn play(g: Layout, script: &[u8], v: &mut [u8], st: &mut [u8]) -> Result<Moment, Refusal>
+    ensures { Plays None g (format_of tag_of g v.old) script.now st.old result v.new st.new }
 {
-    let answer = volume::format::format(v, g);
-    play_on(answer, g.reserved, &[], script, v, st)
+    volume::format::format(v, g)?;
+    let x = Setting {
+        key: None,
+        reserved: g.reserved,
+    };
+    Ok(events(x, script, v, st))
 }
 
 // The same with every call under a key.
-pub fn play_keyed(g: Layout, key: &[u8], script: &[u8], v: &mut [u8], st: &mut [u8]) -> Played
-    ensures { Plays key.now g (format_keyed_of key.now g v.old)
-        script.now st.old result v.new st.new }
-{
-    let answer = volume::format::format_keyed(v, g, key);
-    play_on(answer, g.reserved, key, script, v, st)
-}
-
-// Plays the script on what format left, if that was taken. Here and below an empty key stands for calls without one.
-fn play_on(
-    answer: FormatAnswer,
-    r: usize,
+pub fn play_keyed(
+    g: Layout,
     key: &[u8],
     script: &[u8],
     v: &mut [u8],
     st: &mut [u8],
-) -> Played
-    requires { is_taken (format_answer answer) ≡ true → length key.now ≤ most_key }
-    ensures { (result.format ≡ answer)
-        × Ran key.now r v.old st.old (played_by (format_answer answer) script.now st.old) result.last v.new st.new }
+) -> Result<Moment, Refusal>
+    ensures { Plays (Some key.now) g (format_keyed_of key.now g v.old)
+        script.now st.old result v.new st.new }
 {
-    match answer {
-        FormatAnswer::Formatted => {}
-        FormatAnswer::Refused(_) => {
-            return Played {
-                format: answer,
-                last: at_rest(Live::Off),
-            };
-        }
-    }
-    Played {
-        format: answer,
-        last: events(r, key, script, v, st),
-    }
+    volume::format::format_keyed(v, g, key)?;
+    let x = Setting {
+        key: Some(key),
+        reserved: g.reserved,
+    };
+    Ok(events(x, script, v, st))
 }
 
-// Plays the script on a volume with r reserved sectors.
-fn events(r: usize, key: &[u8], script: &[u8], v: &mut [u8], st: &mut [u8]) -> Moment
-    requires { length key.now ≤ most_key }
-    ensures { Ran key.now r v.old st.old (events_of (length st.old) script.now) result v.new st.new }
+// Plays the script on a volume that format left.
+fn events(x: Setting, script: &[u8], v: &mut [u8], st: &mut [u8]) -> Moment
+    requires { key_fits (option_copied x.key) ≡ true }
+    ensures { Ran (option_copied x.entry.key) x.entry.reserved v.old st.old (events_of (length st.old) script.now) result v.new st.new }
 {
-    let count = script.len() / EVENT_SIZE;
-    let mut last = at_rest(Live::Off);
-    let mut i = 0;
-    while i < count {
-        let live = last.live;
-        let at = i * EVENT_SIZE;
-        let sector = octets::number(script, at + 1, 2) as usize;
-        let next = event(r, key, live, v, st, script[at], sector, script[at + 3]);
-        last = next;
-        i += 1;
+    let mut last = at_rest(None);
+    for bytes in script.chunks_exact(EVENT_SIZE) {
+        last = next(x, last.live, v, st, decode(bytes));
     }
     last
 }
 
+// The event that its bytes write down.
+fn decode(bytes: &[u8]) -> Event
+    requires { length bytes.now ≡ event_size }
+    ensures { result ≡ record { kind = kind_of (get_or bytes.now 0 0); sector = value (part bytes.now 1 2); fill = get_or bytes.now 3 0 } }
+{
+    Event {
+        kind: Kind::from(bytes[0]),
+        sector: octets::number(bytes, 1, 2) as usize,
+        fill: bytes[3],
+    }
+}
+
 // What is live after an event that settles nothing.
-fn at_rest(live: Live) -> Moment
-    ensures { result ≡ record { live = live; settled = false } }
+fn at_rest(live: Option<State>) -> Moment
+    ensures { result ≡ at_rest live }
 {
     Moment {
-        live: live,
+        live,
         settled: false,
     }
 }
 
 // One event.
-fn event(
-    r: usize,
-    key: &[u8],
-    live: Live,
-    v: &mut [u8],
-    st: &mut [u8],
-    kind: u8,
-    sector: usize,
-    fill: u8,
-) -> Moment
-    requires { length key.now ≤ most_key }
-    ensures { Turn key.now r v.old (live_of live st.old) st.old
-        (event_of (length st.old) kind sector fill) result v.new st.new }
+fn next(x: Setting, live: Option<State>, v: &mut [u8], st: &mut [u8], e: Event) -> Moment
+    requires { key_fits (option_copied x.key) ≡ true }
+    ensures { Turn (option_copied x.entry.key) x.entry.reserved v.old (live_of live st.old) st.old
+        (event_by (length st.old) e.kind e.sector e.fill) result v.new st.new }
 {
     match live {
-        Live::Off => event_off(r, key, v, st, kind, sector, fill),
-        Live::On(s) => event_on(r, key, s, v, st, kind, sector, fill),
+        None => event_off(x, v, st, e),
+        Some(s) => event_on(x, s, v, st, e),
     }
 }
 
 // While nothing is live only an open is made (R58).
-fn event_off(
-    r: usize,
-    key: &[u8],
-    v: &[u8],
-    st: &mut [u8],
-    kind: u8,
-    sector: usize,
-    fill: u8,
-) -> Moment
-    requires { length key.now ≤ most_key }
-    ensures { Turn key.now r v.now off st.old (event_of (length st.old) kind sector fill) result v.now st.new }
+fn event_off(x: Setting, v: &[u8], st: &mut [u8], e: Event) -> Moment
+    requires { key_fits (option_copied x.key) ≡ true }
+    ensures { Turn (option_copied x.entry.key) x.entry.reserved v.now off st.old
+        (event_by (length st.old) e.kind e.sector e.fill) result v.now st.new }
 {
-    if kind == OPEN {
-        return after_open(open_filled(r, key, v, st, fill));
+    match e.kind {
+        Kind::Open => after_open(open_filled(x, v, st, e.fill)),
+        Kind::ShortOpen => {
+            short_open(x, v, st, e.fill);
+            at_rest(None)
+        }
+        Kind::LongKeyOpen => {
+            let key = [e.fill; LONG_KEY_SIZE];
+            let long = Setting {
+                key: Some(&key),
+                ..x
+            };
+            let _ = open_filled(long, v, st, e.fill);
+            at_rest(None)
+        }
+        _ => at_rest(None),
     }
-    if kind == SHORT_OPEN {
-        short_open(r, key, v, st, fill);
-        return at_rest(Live::Off);
-    }
-    if kind == LONG_KEY_OPEN {
-        open_long_key(r, v, st, fill);
-        return at_rest(Live::Off);
-    }
-    at_rest(Live::Off)
-}
-
-fn fill_loan(st: &mut [u8], fill: u8)
-    ensures { st.new ≡ replicate (length st.old) fill }
-{
-    octets::fill_at(st, 0, st.len(), fill);
 }
 
 // An open whose staging is filled with a byte.
-fn open_filled(r: usize, key: &[u8], v: &[u8], st: &mut [u8], fill: u8) -> OpenAnswer
-    requires { length key.now ≤ most_key }
-    ensures { record { answer = open_answer result; staging = st.new } ≡ open_of (tags_for key.now) r v.now (replicate (length st.old) fill) }
+fn open_filled(x: Setting, v: &[u8], st: &mut [u8], fill: u8) -> Result<Opened, Refusal>
+    ensures { record { answer = open_answer result; staging = st.new }
+        ≡ open_under (option_copied x.entry.key) x.entry.reserved v.now (replicate (length st.old) fill) }
 {
-    fill_loan(st, fill);
-    if key.len() == 0 {
-        return volume::open::open(v, st, r);
+    st.fill(fill);
+    match x.key {
+        None => volume::open::open(v, st, x.reserved),
+        Some(key) => volume::open::open_keyed(v, st, x.reserved, key),
     }
-    volume::open::open_keyed(v, st, r, key)
 }
 
 // An open that is lent the first bytes of the loan, too few for any layout: it is refused, and leaves them as they were filled.
-fn short_open(r: usize, key: &[u8], v: &[u8], st: &mut [u8], fill: u8)
-    requires { length key.now ≤ most_key }
+fn short_open(x: Setting, v: &[u8], st: &mut [u8], fill: u8)
+    requires { key_fits (option_copied x.key) ≡ true }
     ensures { st.new ≡ patch st.old 0 (take short_size (replicate (length st.old) fill)) }
 {
-    if st.len() < SHORT_SIZE {
-        open_filled(r, key, v, st, fill);
-        return;
-    }
-    let n = SHORT_SIZE;
-    open_filled(r, key, v, &mut st[..n], fill);
-}
-
-// An open with a key that no call takes: it is refused, and leaves the loan as it was filled.
-fn open_long_key(r: usize, v: &[u8], st: &mut [u8], fill: u8)
-    ensures { st.new ≡ replicate (length st.old) fill }
-{
-    fill_loan(st, fill);
-    let key = [fill; LONG_KEY_SIZE];
-    volume::open::open_keyed(v, st, r, &key);
+    let n = st.len().min(SHORT_SIZE);
+    let _ = open_filled(x, v, &mut st[..n], fill);
 }
 
 // What is live after an open; it settles where it was taken and reports no store to come.
-fn after_open(a: OpenAnswer) -> Moment
+fn after_open(a: Result<Opened, Refusal>) -> Moment
     ensures { (v st : List ℕ) → world_of result v st ≡ (lists.by_open (medium_of v) st (open_answer a)).world }
 {
     match a {
-        OpenAnswer::Opened(s, stores) => Moment {
-            live: Live::On(s),
+        Ok(Opened { state, stores }) => Moment {
+            live: Some(state),
             settled: stores == 0,
         },
-        OpenAnswer::Refused(_) => at_rest(Live::Off),
+        Err(_) => at_rest(None),
     }
 }
 
 // While a state is live, anything but an open (R58).
-fn event_on(
-    r: usize,
-    key: &[u8],
-    s: State,
-    v: &mut [u8],
+fn event_on(x: Setting, s: State, v: &mut [u8], st: &mut [u8], e: Event) -> Moment
+    requires { key_fits (option_copied x.key) ≡ true }
+    ensures { Turn (option_copied x.entry.key) x.entry.reserved v.old (on s st.old) st.old
+        (event_by (length st.old) e.kind e.sector e.fill) result v.new st.new }
+{
+    match e.kind {
+        Kind::Cut => at_rest(None),
+        Kind::Write => write_event(x.key, s, st, e.sector, &[e.fill; SECTOR_SIZE]),
+        Kind::ShortWrite => write_event(x.key, s, st, e.sector, &[e.fill; SHORT_SIZE]),
+        Kind::LongKeyWrite => {
+            let long = [e.fill; LONG_KEY_SIZE];
+            write_event(Some(&long), s, st, e.sector, &[e.fill; SECTOR_SIZE])
+        }
+        Kind::Flush => flush_event(s),
+        Kind::Step => step_event(s, v, st),
+        Kind::Read => read_event(x.key, s, v, st, e.sector, &mut [e.fill; SECTOR_SIZE]),
+        Kind::ShortRead => read_event(x.key, s, v, st, e.sector, &mut [e.fill; SHORT_SIZE]),
+        Kind::LongKeyRead => {
+            let long = [e.fill; LONG_KEY_SIZE];
+            read_event(Some(&long), s, v, st, e.sector, &mut [e.fill; SECTOR_SIZE])
+        }
+        Kind::Open | Kind::ShortOpen | Kind::LongKeyOpen => at_rest(Some(s)),
+    }
+}
+
+fn write_event(
+    key: Option<&[u8]>,
+    mut s: State,
     st: &mut [u8],
-    kind: u8,
     sector: usize,
-    fill: u8,
+    bytes: &[u8],
 ) -> Moment
-    requires { length key.now ≤ most_key }
-    ensures { Turn key.now r v.old (on s st.old) st.old
-        (event_of (length st.old) kind sector fill) result v.new st.new }
-{
-    if kind == CUT {
-        return at_rest(Live::Off);
-    }
-    if kind == WRITE {
-        let bytes = [fill; SECTOR_SIZE];
-        return write_event(key, s, st, sector, &bytes);
-    }
-    if kind == SHORT_WRITE {
-        let bytes = [fill; SHORT_SIZE];
-        return write_event(key, s, st, sector, &bytes);
-    }
-    if kind == LONG_KEY_WRITE {
-        let bytes = [fill; SECTOR_SIZE];
-        let long = [fill; LONG_KEY_SIZE];
-        return keyed_write(&long, s, st, sector, &bytes);
-    }
-    if kind == FLUSH {
-        let flushed = volume::flush::flush(s);
-        let next = flushed.state;
-        return at_rest(Live::On(next));
-    }
-    if kind == STEP {
-        return step_event(s, v, st);
-    }
-    read_event(key, s, v, st, kind, sector, fill);
-    at_rest(Live::On(s))
-}
-
-fn write_event(key: &[u8], s: State, st: &mut [u8], sector: usize, bytes: &[u8]) -> Moment
-    requires { length key.now ≤ most_key }
     ensures { (v : List ℕ) → world_of result v st.new
-        ≡ (lists.by_write (medium_of v) sector bytes.now (write_of (tags_for key.now) s st.old sector bytes.now)).world }
+        ≡ (lists.by_write (medium_of v) sector bytes.now
+        (write_under (option_copied key.entry) s st.old sector bytes.now)).world }
 {
-    if key.len() != 0 {
-        return keyed_write(key, s, st, sector, bytes);
-    }
-    let written = volume::write::write(s, st, sector, bytes);
-    let next = written.state;
-    at_rest(Live::On(next))
+    let _ = match key {
+        None => volume::write::write(&mut s, st, sector, bytes),
+        Some(key) => volume::write::write_keyed(&mut s, st, sector, bytes, key),
+    };
+    at_rest(Some(s))
 }
 
-// A write with a key, whatever its length.
-fn keyed_write(key: &[u8], s: State, st: &mut [u8], sector: usize, bytes: &[u8]) -> Moment
-    ensures { (v : List ℕ) → world_of result v st.new
-        ≡ (lists.by_write (medium_of v) sector bytes.now (write_keyed_of key.now s st.old sector bytes.now)).world }
+fn flush_event(mut s: State) -> Moment
+    ensures { (v st : List ℕ) → world_of result v st ≡ (lists.by_flush (medium_of v) st (flush_of s)).world }
 {
-    let written = volume::write::write_keyed(s, st, sector, bytes, key);
-    let next = written.state;
-    at_rest(Live::On(next))
-}
-
-// A read, unless the kind is an open's, which is not made while a state is live.
-fn read_event(key: &[u8], s: State, v: &[u8], st: &[u8], kind: u8, sector: usize, fill: u8) {
-    if kind == OPEN || kind == SHORT_OPEN || kind == LONG_KEY_OPEN {
-        return;
-    }
-    if kind == LONG_KEY_READ {
-        let mut bytes = [fill; SECTOR_SIZE];
-        let long = [fill; LONG_KEY_SIZE];
-        volume::read::read_keyed(s, v, st, sector, &mut bytes, &long);
-        return;
-    }
-    if kind == SHORT_READ {
-        let mut bytes = [fill; SHORT_SIZE];
-        read_into(key, s, v, st, sector, &mut bytes);
-        return;
-    }
-    let mut bytes = [fill; SECTOR_SIZE];
-    read_into(key, s, v, st, sector, &mut bytes);
-}
-
-fn read_into(key: &[u8], s: State, v: &[u8], st: &[u8], sector: usize, bytes: &mut [u8]) {
-    if key.len() == 0 {
-        volume::read::read(s, v, st, sector, bytes);
-        return;
-    }
-    volume::read::read_keyed(s, v, st, sector, bytes, key);
+    let _ = volume::flush::flush(&mut s);
+    at_rest(Some(s))
 }
 
 // A step settles where it says filling.
-fn step_event(s: State, v: &mut [u8], st: &mut [u8]) -> Moment
-    ensures { world_of result v.new st.new ≡ (lists.happens (setting [] 0) (medium_of v.old) (on s st.old) lists.a_step).world }
+fn step_event(mut s: State, v: &mut [u8], st: &mut [u8]) -> Moment
+    ensures { world_of result v.new st.new
+        ≡ (lists.happens (setting None 0) (medium_of v.old) (on s st.old) lists.a_step).world }
 {
-    let stepped = volume::step::step(s, v, st);
-    let next = stepped.state;
-    let answer = stepped.answer;
+    let answer = volume::step::step(&mut s, v, st);
     Moment {
-        live: Live::On(next),
+        live: Some(s),
         settled: model::says_filling(answer),
     }
+}
+
+// A read, after which all is as it was.
+fn read_event(
+    key: Option<&[u8]>,
+    s: State,
+    v: &[u8],
+    st: &[u8],
+    sector: usize,
+    bytes: &mut [u8],
+) -> Moment
+    ensures { result ≡ at_rest (Some s) }
+{
+    let _ = match key {
+        None => volume::read::read(s, v, st, sector, bytes),
+        Some(key) => volume::read::read_keyed(s, v, st, sector, bytes, key),
+    };
+    at_rest(Some(s))
 }

@@ -6,114 +6,94 @@
 // has as many steps in its last recovery as R40 counts stores, so it is done recovering only if that is the number.
 #![tactic(auto)]
 
+mod case;
 mod script;
 mod tally;
 
+use case::Case;
 use drill::Moment;
-use on_disk::Layout;
-use std::io::{self, Write};
+use model::Refusal;
+use script::Script;
+use std::io;
 use tally::Tally;
 
-// The bytes of the larger volume, of a section, and of the longest script.
+// The bytes of the larger volume, and of a section.
 const VOLUME: usize = 110592;
 
 const STAGING: usize = 45056;
 
-const SCRIPT: usize = 2048;
-
 // The bytes of the key.
 const KEY: usize = 20;
 
+// What a drill is lent.
+#[derive(Drop)]
+struct Loans {
+    volume: [u8; VOLUME],
+    staging: [u8; STAGING],
+    script: Script,
+}
+
 fn main(rt: HostRuntime) -> io::Result<()> {
-    let mut v = [0u8; VOLUME];
-    let mut st = [0u8; STAGING];
-    let mut script = [0u8; SCRIPT];
-    let key = [75u8; KEY];
+    let mut loans = Loans {
+        volume: [0; VOLUME],
+        staging: [0; STAGING],
+        script: Script::new(),
+    };
     let mut out = io::writer(&rt);
-    drills(&mut out, &[], false, &mut v, &mut st, &mut script, 1)?;
-    drills(&mut out, &[], false, &mut v, &mut st, &mut script, 2)?;
-    drills(&mut out, &key, false, &mut v, &mut st, &mut script, 1)?;
-    drills(&mut out, &key, false, &mut v, &mut st, &mut script, 2)?;
-    drills(&mut out, &[], true, &mut v, &mut st, &mut script, 1)?;
-    drills(&mut out, &[], true, &mut v, &mut st, &mut script, 2)
+    let key = [75u8; KEY];
+    lines(&mut out, None, false, &mut loans)?;
+    lines(&mut out, Some(&key), false, &mut loans)?;
+    lines(&mut out, None, true, &mut loans)
 }
 
-// r 0; T 32, N 16, P 16, or T 30, N 32, P 24, where the tag of sector 17 crosses
-fn layout(crossing: bool, sections: usize) -> Layout {
-    let shift = if crossing { 5 } else { 4 };
-    let width = if crossing { 30 } else { 32 };
-    Layout {
-        reserved: 0,
-        shift,
-        width,
-        sections,
-        provided: script::provided(crossing),
-    }
-}
-
-// Every drill on a volume with so many sections. Here and below an empty key stands for calls without one.
-fn drills<W: Write>(
+// A line for each number of sections.
+fn lines<W: io::Write>(
     out: &mut W,
-    key: &[u8],
+    key: Option<&[u8]>,
     crossing: bool,
-    v: &mut [u8],
-    st: &mut [u8],
-    script: &mut [u8],
-    sections: usize,
+    loans: &mut Loans,
 ) -> io::Result<()> {
-    let mut all = tally::none();
-    for stores in 0..=script::stores(crossing) {
-        all = recoveries(key, crossing, v, st, script, sections, stores, all);
+    for sections in 1..=2 {
+        let case = Case {
+            key,
+            crossing,
+            sections,
+        };
+        drills(case, loans).print(out, case)?;
     }
-    tally::print(out, all, key, crossing, sections)
+    Ok(())
 }
 
-// The drills with the first cut after so many stores.
-fn recoveries(
-    key: &[u8],
-    crossing: bool,
-    v: &mut [u8],
-    st: &mut [u8],
-    script: &mut [u8],
-    sections: usize,
-    stores: usize,
-    before: Tally,
-) -> Tally {
-    let mut all = before;
-    for again in 0..=script::replayed(crossing, sections, stores) {
-        all = one_drill(key, crossing, v, st, script, sections, stores, again, all);
+// Every drill of a case.
+fn drills(case: Case, loans: &mut Loans) -> Tally {
+    let mut all = Tally::default();
+    for stores in 0..=case.stores() {
+        recoveries(case, loans, stores, &mut all);
     }
     all
 }
 
-// One drill, and what is read afterwards.
-fn one_drill(
-    key: &[u8],
-    crossing: bool,
-    v: &mut [u8],
-    st: &mut [u8],
-    script: &mut [u8],
-    sections: usize,
-    stores: usize,
-    again: usize,
-    before: Tally,
-) -> Tally {
-    let replayed = script::replayed(crossing, sections, stores);
-    let length = script::put(script, crossing, stores, again, replayed);
-    if script.len() < length {
-        return tally::unsettled(before);
+// The drills with the first cut after so many stores.
+fn recoveries(case: Case, loans: &mut Loans, stores: usize, all: &mut Tally) {
+    for again in 0..=case.replayed(stores) {
+        let last = one_drill(case, loans, stores, again);
+        all.add(case, last, &loans.volume, &loans.staging, stores);
     }
-    octets::fill_at(v, 0, v.len(), 0);
-    let last = play(key, layout(crossing, sections), &script[..length], v, st);
-    tally::add(before, last, key, crossing, v, st, stores)
 }
 
-// Plays a script without a key or with one, and gives what is live at its end.
-fn play(key: &[u8], g: Layout, script: &[u8], v: &mut [u8], st: &mut [u8]) -> Moment {
-    if key.is_empty() {
-        let played = drill::play(g, script, v, st);
-        return played.last;
+// One drill on a fresh volume, and what is live at its end.
+fn one_drill(
+    case: Case,
+    loans: &mut Loans,
+    stores: usize,
+    again: usize,
+) -> Result<Moment, Refusal> {
+    loans.script.put(case, stores, again);
+    loans.volume.fill(0);
+    let g = case.layout();
+    let script = loans.script.bytes();
+    match case.key {
+        None => drill::play(g, script, &mut loans.volume, &mut loans.staging),
+        Some(key) => drill::play_keyed(g, key, script, &mut loans.volume, &mut loans.staging),
     }
-    let played = drill::play_keyed(g, key, script, v, st);
-    played.last
 }

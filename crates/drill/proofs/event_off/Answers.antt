@@ -1,16 +1,23 @@
-use mathlib.Core.Path.{refl}
-use lib.ListN.{length}
-use Rattle.drill.proofs.Turns.{stays-off, opens, opens-short, opens-long}
+use Rattle.std.specs.Prelude.{option_copied}
+use Rattle.drill.specs.Script.{long_key}
+use Rattle.drill.proofs.Turns.{opens, opens-short, opens-long}
 use Rattle.drill.proofs.event_off.Goals as goal
 
-pub returns-then-kind-eq-OPEN : goal.returns-then-kind-eq-OPEN
-returns-then-kind-eq-OPEN c = opens c.args.key.now c.args.r (length c.args.st.now) c.args.kind c.args.sector c.args.fill c.args.v.now c.args.st.now _ refl c.open_filled.result c.open_filled.ensures c.after_open.result c.after_open.ensures c.if-kind-eq-OPEN.true
+pub returns-in-Open : goal.returns-in-Open
+returns-in-Open c =
+    let a = c.args in
+    opens (option_copied a.x.key) a.x.reserved a.e.kind a.e.sector a.e.fill a.v.now a.st.now c.after_open.result c.open_filled.result _ c.requires
+    c.open_filled.ensures c.after_open.ensures c.in-Open.is
 
-pub returns-then-kind-eq-SHORT_OPEN : goal.returns-then-kind-eq-SHORT_OPEN
-returns-then-kind-eq-SHORT_OPEN c = opens-short c.args.key.now c.args.r (length c.args.st.now) c.args.kind c.args.sector c.args.fill c.args.v.now c.args.st.now c.at_rest.result c.at_rest.ensures _ c.short_open.ensures c.if-kind-eq-SHORT_OPEN.true
+pub returns-in-ShortOpen : goal.returns-in-ShortOpen
+returns-in-ShortOpen c =
+    let a = c.args in
+    opens-short (option_copied a.x.key) a.x.reserved a.e.kind a.e.sector a.e.fill a.v.now a.st.now c.at_rest.result _ c.at_rest.ensures c.short_open.ensures
+    c.in-ShortOpen.is
 
-pub returns-then-kind-eq-LONG_KEY_OPEN : goal.returns-then-kind-eq-LONG_KEY_OPEN
-returns-then-kind-eq-LONG_KEY_OPEN c = opens-long c.args.key.now c.args.r (length c.args.st.now) c.args.kind c.args.sector c.args.fill c.args.v.now c.args.st.now c.at_rest-then-kind-eq-LONG_KEY_OPEN.result c.at_rest-then-kind-eq-LONG_KEY_OPEN.ensures _ refl c.open_long_key.ensures c.if-kind-eq-LONG_KEY_OPEN.true
-
-pub returns : goal.returns
-returns c = stays-off c.args.key.now c.args.r (length c.args.st.now) c.args.kind c.args.sector c.args.fill c.args.v.now c.args.st.now c.at_rest-2.result c.at_rest-2.ensures c.if-kind-eq-OPEN.false c.if-kind-eq-SHORT_OPEN.false c.if-kind-eq-LONG_KEY_OPEN.false
+pub returns-in-LongKeyOpen : goal.returns-in-LongKeyOpen
+unfolding long_key
+returns-in-LongKeyOpen c =
+    let a = c.args in
+    opens-long (option_copied a.x.key) a.x.reserved a.e.kind a.e.sector a.e.fill a.v.now a.st.now c.at_rest-in-LongKeyOpen.result _
+    c.at_rest-in-LongKeyOpen.ensures c.open_filled-in-LongKeyOpen.ensures c.in-LongKeyOpen.is

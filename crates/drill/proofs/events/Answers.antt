@@ -1,20 +1,43 @@
-use Prim.Native.Nat.{ℕ, ◌/◌}
+use Prim.Native.Nat.{◌+◌}
 use native.Mathlib.Omega.{arith}
-use lib.ListN.{length}
-use mathlib.Core.Path.{◌≡◌, refl, subst}
-use Rattle.drill.specs.Script.{events_up_to}
-use Rattle.drill.specs.Played.{Ran}
+use mathlib.Core.List.{[], ◌∷◌, ◌++◌}
+use mathlib.Core.Path.{◌≡◌, refl, ◌∙◌}
+use lib.ListN.{length, length-append}
+use borrow.Author.Rules.{rules}
+use Rattle.std.specs.Prelude.{option_copied}
+use Rattle.drill.specs.Script.{event_by, event_at}
+use Rattle.drill.proofs.Scripts.{rest-turn, is-event}
 use Rattle.drill.proofs.Worlds.{begins, event-played}
 use Rattle.drill.proofs.events.Goals as goal
 
-pub loop-i-init : goal.loop-i-init
-loop-i-init c = (omega arith, refl, refl, refl, c.requires, begins c.args.key.now c.args.r c.args.v.now c.args.st.now _ c.at_rest-last.ensures)
+pub loop-bytes-init : goal.loop-bytes-init
+loop-bytes-init c =
+    let a = c.args in
+    record {
+      size = search rules;
+      rest = search rules;
+      loan = refl;
+      ran = begins (option_copied a.x.key) a.x.reserved a.v.now a.st.now _ c.at_rest-last.ensures;
+    }
 
-pub event-next-requires : goal.event-next-requires
-event-next-requires c = c.loop-i.invariant.4
-
-pub loop-i-preserved : goal.loop-i-preserved
-loop-i-preserved c = (omega (arith, c.loop-i-test.true), c.loop-i.invariant.1, omega (arith, c.event-next.auto.v, c.loop-i.invariant.2), omega (arith, c.event-next.auto.st, c.loop-i.invariant.3), c.loop-i.invariant.4, event-played c.args.key.now c.args.r c.args.v.now c.args.st.now (length c.args.st.now) c.loop-i.i c.args.script.now c.loop-i.v c.loop-i.st _ _ c.loop-i.last c.event-next.result c.loop-i.invariant.5 _ _ _ c.event-next.ensures c.loop-i.invariant.3 refl c.number-sector.ensures.0 refl)
-
-pub returns : goal.returns
-returns c = let all : c.loop-i.i ≡ length c.args.script.now / 4 = omega (arith, c.loop-i-test.false, c.loop-i.invariant.0, c.loop-i.invariant.1) in subst (λ (m : ℕ). Ran c.args.key.now c.args.r c.args.v.now c.args.st.now (events_up_to (length c.args.st.now) c.args.script.now m) c.loop-i.last c.loop-i.v c.loop-i.st) all c.loop-i.invariant.5
+pub loop-bytes-preserved : goal.loop-bytes-preserved
+loop-bytes-preserved c =
+    let a = c.args in
+    let turn = c.loop-bytes in
+    let before = turn.invariant in
+    let block = c.in-Some.bytes in
+    let step = c.in-Some.ensures.steps in
+    let i = length turn.yielded in
+    let n = length a.st.now in
+    let made = c.decode in
+    let size : length block.now ≡ 4 = step.1.1 ∙ before.size in
+    let more : length (turn.yielded ++ block ∷ []) ≡ i + 1 = length-append turn.yielded (block ∷ []) in
+    let is : event_by (length turn.st) made.result.kind made.result.sector made.result.fill ≡ event_at n a.script.now i =
+    (λ j. event_by (before.loan j) (made.ensures j).kind (made.ensures j).sector (made.ensures j).fill)
+    ∙ is-event i a.script.now _ block.now _ before.rest step.1.0 size n in
+    record {
+      size = step.0 ∙ before.size;
+      rest = rw more (rest-turn i a.script.now _ block.now _ before.rest step.1.0 size);
+      loan = omega (arith, c.next-last.auto.st, before.loan);
+      ran = rw more (event-played (option_copied a.x.key) a.x.reserved a.v.now a.st.now n i a.script.now turn.v turn.st _ _ turn.last c.next-last.result before.ran _ c.next-last.ensures is);
+    }
