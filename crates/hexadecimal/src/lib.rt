@@ -6,11 +6,7 @@ use std::io::{self, Write};
 // Prints two digits for each byte, in lower case, and no line end.
 pub fn print<W: Write>(out: &mut W, bytes: &[u8]) -> io::Result<()> {
     for b in bytes {
-        print_byte(out, *b)?;
+        write!(out, "{b:02x}")?;
     }
     Ok(())
-}
-
-fn print_byte<W: Write>(out: &mut W, b: u8) -> io::Result<()> {
-    write!(out, "{b:02x}")
 }

@@ -1,7 +1,7 @@
 -- The check of a whole volume, R88: it is opened, its recovery finished in memory, and each sector read.
 --
--- recover_answer a   : the answer a of the call: the state, and how many stores there were; or open's refusal
--- recover_of r v st  : the call: open, then as many steps as it reports are to come. Its answer, and volume and staging afterwards
+-- recover_of r v st  : the call: open, then as many steps as it reports are to come. Its answer, as open's: the state, and how many stores there were; or
+--                      open's refusal. And volume and staging afterwards
 -- is_bad s v st n    : whether sector n is bad: the volume provides it, and a read of it is refused. Where the volume is filling, that is by refusal 7 alone
 -- flags_of bad n     : a byte for each sector below n: 1 where it is bad, else 0
 -- count_of bad n     : how many of them are bad
@@ -11,18 +11,11 @@ use Rattle.octets.specs.Answer.{Answer, taken, refused, is_taken}
 use Rattle.octets.specs.Choice.{pick}
 use Rattle.octets.specs.Sectors.{sector_size}
 use Rattle.model.specs.declared.State.{State}
-use Rattle.model.specs.Refusal.{refusal_of}
 use Rattle.octets.specs.Lists.{collect}
 use Rattle.model.specs.Tag.{tag_of}
 use Rattle.model.specs.Open.{OpenResult, open_of}
 use Rattle.model.specs.Advance.{AdvanceResult, advance_of}
 use Rattle.model.specs.Read.{read_of}
-use Rattle.volume_check.specs.declared.RecoverAnswer.{RecoverAnswer}
-use Rattle.volume_check.specs.declared.RecoverAnswer.TheVariants.{Recovered, Refused}
-
-abbrev pub recover_answer : RecoverAnswer → Answer ℕ (State × ℕ)
-recover_answer (Recovered s n) = taken (s, n)
-recover_answer (Refused r) = refused (refusal_of r)
 
 pub record RecoverResult : Type 0 where
   pub answer : Answer ℕ (State × ℕ)

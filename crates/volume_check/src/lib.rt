@@ -1,33 +1,20 @@
 // The check of a whole volume: R88. The volume is opened, its recovery is finished in memory, and each sector is read.
 #![tactic(auto)]
 
-ghost use Rattle.std.specs.Prelude.{◌≡◌, ◌≤◌, length};
-ghost use Rattle.octets.specs.Choice.{pick};
-ghost use Rattle.volume_check.specs.Check.{recover_answer, recover_of, is_bad, Flagged};
+ghost use Rattle.std.specs.Prelude.{◌≡◌, length};
+ghost use Rattle.model.specs.Refusal.{open_answer};
+ghost use Rattle.volume_check.specs.Check.{recover_of, is_bad, Flagged};
 
 use layout::SECTOR_SIZE;
-use model::{OpenAnswer, ReadAnswer, Refusal, State};
+use model::{Opened, Refusal, State};
 
-#[derive(Clone, Copy)]
-pub enum RecoverAnswer {
-    // The state, and how many stores were to come.
-    Recovered(State, usize),
-    Refused(Refusal),
-}
-
-// Opens a volume, and finishes its recovery.
-pub fn recover(v: &mut [u8], st: &mut [u8], r: usize) -> RecoverAnswer
-    ensures { record { answer = recover_answer result; volume = v.new; staging = st.new } ≡ recover_of r v.old st.old }
+// Opens a volume, and finishes its recovery. Answers the state, and how many stores were to come.
+pub fn recover(v: &mut [u8], st: &mut [u8], r: usize) -> Result<Opened, Refusal>
+    ensures { record { answer = open_answer result; volume = v.new; staging = st.new } ≡ recover_of r v.old st.old }
 {
-    let answer = volume::open::open(v, st, r);
-    match answer {
-        OpenAnswer::Opened(s, n) => {
-            let last = volume::advance::advance(s, v, st, n);
-            let state = last.state;
-            RecoverAnswer::Recovered(state, n)
-        }
-        OpenAnswer::Refused(refusal) => RecoverAnswer::Refused(refusal),
-    }
+    let mut opened = volume::open::open(v, st, r)?;
+    volume::advance::advance(&mut opened.state, v, st, opened.stores);
+    Ok(opened)
 }
 
 // Whether the volume provides a sector and cannot give its bytes.
@@ -35,23 +22,7 @@ fn is_bad(s: State, v: &[u8], st: &[u8], n: usize) -> bool
     ensures { result ≡ is_bad s v.now st.now n }
 {
     let mut bytes = [0u8; SECTOR_SIZE];
-    let answer = volume::read::read(s, v, st, n, &mut bytes);
-    let g = s.layout;
-    let provided = n < g.provided;
-    match answer {
-        ReadAnswer::Found => false,
-        ReadAnswer::Refused(_) => provided,
-    }
-}
-
-// A fact as a byte.
-fn flag(b: bool) -> u8
-    ensures { (result ≡ pick b 1 0) × (result ≤ 1) }
-{
-    if b {
-        return 1;
-    }
-    0
+    n < s.layout.provided && volume::read::read(s, v, st, n, &mut bytes).is_err()
 }
 
 // Which sectors are bad, a byte for each, as many as are lent: 1 for a bad one, else 0. Answers how many are.
@@ -59,12 +30,10 @@ pub fn bad_sectors(s: State, v: &[u8], st: &[u8], flags: &mut [u8]) -> usize
     ensures { Flagged (is_bad s v.now st.now) (length flags.old) result flags.new }
 {
     let mut count = 0;
-    let mut i = 0;
-    while i < flags.len() {
-        let bad = flag(is_bad(s, v, st, i));
-        flags[i] = bad;
-        count += bad as usize;
-        i += 1;
+    for i in 0..flags.len() {
+        let bad = is_bad(s, v, st, i);
+        flags[i] = u8::from(bad);
+        count += usize::from(bad);
     }
     count
 }

@@ -6,43 +6,46 @@ use mathlib.Core.Path.{◌≡◌, refl, sym, ap, ◌∙◌, subst}
 use native.Mathlib.Omega.{arith}
 use lib.Dec.{eqb}
 use lib.ListN.{length, take, drop, length-append, take-append-drop}
-use lib.Seq.{length-take-le}
-use Rattle.io.specs.Counts.{IsPrefixLen}
 use Rattle.octets.specs.Choice.{pick}
 use Rattle.octets.specs.Parts.{patch}
 use Rattle.octets.proofs.Parts.{patch-join}
 use Rattle.octets.specs.Lists.{collect}
 use Rattle.on_disk.specs.declared.Layout.{Layout}
 use Rattle.volume_check.specs.Check.{flags_of, count_of}
-use Rattle.volume_report.specs.Report.{line_of, layout_line, flagged, bad_line, bad_lines, checked_text, check_text, Puts}
+use Rattle.volume_report.specs.Report.{line_of, layout_line, flagged, bad_line, bad_lines, checked_text, check_text}
+use Rattle.volume_report.specs.Text.{Adds}
+use Rattle.volume_report.specs.declared.Text.{Text}
 use Rattle.volume_check.proofs.Checks.{get_flags}
 
 -- no text
-pub nothing-puts : (t : List ℕ) (at : ℕ) → Puts t at [] at t
-nothing-puts t at =
-    let same : at ≡ at + 0 = omega arith in
-    record { text = sym (ap (λ (k : ℕ). take at t ++ drop k t) (sym same) ∙ take-append-drop at t); end = same }
-
--- a text by another name
-pub puts-as : {t t' x y : List ℕ} {at n : ℕ} → x ≡ y → Puts t at x n t' → Puts t at y n t'
-puts-as {t} {t'} {x} {y} {at} {n} e p = subst (λ (z : List ℕ). Puts t at z n t') e p
-
--- two texts, the second behind the first
-pub then-puts : {t t' t'' x y : List ℕ} {at n m : ℕ} → m ≤ length t → Puts t at x n t' → Puts t' n y m t'' → Puts t at (x ++ y) m t''
-then-puts {t} {t'} {t''} {x} {y} {at} {n} {m} room p q =
+pub nothing-adds : (t : Text) → t.len ≤ length t.bytes.now → Adds t [] t
+nothing-adds t room =
+    let same : t.len ≡ t.len + 0 = omega arith in
     record {
-      text =
-          q.text ∙ ap (λ (k : ℕ). patch t' k y) p.end ∙ ap (λ (l : List ℕ). patch l (at + length x) y) p.text
-          ∙ patch-join t at x y (omega (arith, room, p.end, q.end));
-      end = q.end ∙ rw (p.end, length-append x y) (omega arith);
+      same_buffer = refl;
+      puts = record { text = sym (ap (λ (k : ℕ). take t.len t.bytes.now ++ drop k t.bytes.now) (sym same) ∙ take-append-drop t.len t.bytes.now); end = same };
+      size = refl;
+      room = room;
     }
 
--- a text at the start of a loan, as the bytes that the loan begins with
-pub text-counts : {t t' x : List ℕ} {n : ℕ} → Puts t 0 x n t' → IsPrefixLen n t'
-text-counts {t} {t'} {x} {n} p =
-    let whole : length (x ++ drop (0 + length x) t) ≡ length x + length (drop (0 + length x) t) = length-append x (drop (0 + length x) t) in
-    let within : n ≤ length t' = omega (arith, whole, p.end, ap length p.text) in
-    (within, sym (length-take-le n t' within))
+-- a text by another name
+pub adds-as : {t t' : Text} {x y : List ℕ} → x ≡ y → Adds t x t' → Adds t y t'
+adds-as {t} {t'} {x} {y} e p = subst (λ (z : List ℕ). Adds t z t') e p
+
+-- two texts, the second behind the first
+pub then-adds : {t t' t'' : Text} {x y : List ℕ} → Adds t x t' → Adds t' y t'' → Adds t (x ++ y) t''
+then-adds {t} {t'} {t''} {x} {y} p q =
+    record {
+      same_buffer = q.same_buffer ∙ p.same_buffer;
+      puts = record {
+        text =
+            q.puts.text ∙ ap (λ (k : ℕ). patch t'.bytes.now k y) p.puts.end ∙ ap (λ (l : List ℕ). patch l (t.len + length x) y) p.puts.text
+            ∙ patch-join t.bytes.now t.len x y (omega (arith, q.room, q.size, p.size, p.puts.end, q.puts.end));
+        end = q.puts.end ∙ rw (p.puts.end, length-append x y) (omega arith);
+      };
+      size = q.size ∙ p.size;
+      room = q.room;
+    }
 
 -- ---- flags, as the lines of bad sectors
 

@@ -1,2 +1,3 @@
 -- The lines that report a check.
 pub mod Report
+pub mod Text

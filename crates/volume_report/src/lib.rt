@@ -4,15 +4,13 @@
 ghost use Rattle.std.specs.Prelude.{◌+◌, ◌*◌, ◌≤◌, true, [], ◌++◌, ◌≡◌, eqb, length};
 ghost use Rattle.io.specs.Counts.{IsPrefixLen};
 ghost use Rattle.octets.specs.Choice.{pick};
-ghost use Rattle.model.specs.Refusal.{refusal_of};
 ghost use Rattle.on_disk.specs.Layout.{layout_ok};
-ghost use Rattle.volume_check.specs.Check.{recover_of, is_bad};
-ghost use Rattle.volume_report.specs.Report.{newline, decimal, layout_line, flagged, bad_line, bad_lines, refused_line, checked_text, check_text, report_from, report_of, Puts, Reports};
+ghost use Rattle.volume_report.specs.Report.{newline, decimal, layout_line, flagged, bad_line, bad_lines, checked_text, report_of, Reports};
+ghost use Rattle.volume_report.specs.Text.{Adds, Checks};
 
 use layout::SECTOR_SIZE;
-use model::{QueryAnswer, Refusal, State};
+use model::Refusal;
 use on_disk::Layout;
-use volume_check::RecoverAnswer;
 
 // The most sectors of an image.
 pub const MOST_IMAGE_SECTORS: usize = 128;
@@ -26,127 +24,112 @@ const STAGING_SIZE: usize = 65536;
 // The most digits of a number.
 const DIGITS: usize = 20;
 
-// Puts a text at an index, and answers the index behind it.
-fn put_text(text: &mut [u8], at: usize, word: &[u8]) -> usize
-    requires { at + length word.now ≤ length text.old }
-    ensures { Puts text.old at word.now result text.new }
-{
-    octets::copy_at(text, at, word, 0, word.len());
-    at + word.len()
+// A text: the first `len` bytes of a buffer.
+#[derive(Drop)]
+struct Text<'a> {
+    bytes: &'a mut [u8],
+    len: usize,
 }
 
-// Puts a number.
-fn put_decimal(text: &mut [u8], at: usize, n: usize) -> usize
-    requires { at + 20 ≤ length text.old }
-    ensures { Puts text.old at (decimal n) result text.new × (result ≤ at + 20) }
-{
-    let mut digits = [0u8; DIGITS];
-    let k = io::decimal(n as u64, &mut digits);
-    put_text(text, at, &digits[..k])
-}
-
-// Puts a word, then a number.
-fn put_field(text: &mut [u8], at: usize, word: &[u8], n: usize) -> usize
-    requires { at + length word.now + 20 ≤ length text.old }
-    ensures { Puts text.old at (word.now ++ decimal n) result text.new × (result ≤ at + length word.now + 20) }
-{
-    let next = put_text(text, at, word);
-    put_decimal(text, next, n)
-}
-
-// Puts a word and a number, and ends the line.
-fn put_line(text: &mut [u8], at: usize, word: &[u8], n: usize) -> usize
-    requires { at + length word.now + 21 ≤ length text.old }
-    ensures { Puts text.old at ((word.now ++ decimal n) ++ newline) result text.new × (result ≤ at + length word.now + 21) }
-{
-    let next = put_field(text, at, word, n);
-    put_text(text, next, b"\n")
-}
-
-// Puts the line of a refusal.
-fn put_refused(text: &mut [u8], r: Refusal) -> usize
-    requires { 8192 ≤ length text.old }
-    ensures { Puts text.old 0 (refused_line (refusal_of r)) result text.new }
-{
-    put_line(text, 0, b"refused ", model::number(r) as usize)
-}
-
-// Puts the line of a layout.
-fn put_layout(text: &mut [u8], g: Layout) -> usize
-    requires { (layout_ok g ≡ true) × (8192 ≤ length text.old) }
-    ensures { Puts text.old 0 (layout_line g) result text.new × (result ≤ 110) }
-{
-    let run = layout::run_length(g);
-    let after_tag = put_field(text, 0, b"tag ", g.width);
-    let after_run = put_field(text, after_tag, b" run ", run);
-    let after_sections = put_field(text, after_run, b" sections ", g.sections);
-    put_line(text, after_sections, b" provided ", g.provided)
-}
-
-// Puts the line of a bad sector where its flag is 1.
-fn put_flagged(text: &mut [u8], at: usize, flag: u8, n: usize) -> usize
-    requires { at + 32 ≤ length text.old }
-    ensures { Puts text.old at (pick (eqb flag 1) (bad_line n) []) result text.new × (result ≤ at + 32) }
-{
-    if flag == 1 {
-        return put_line(text, at, b"bad-sector ", n);
+impl Text<'_> {
+    // Adds a word.
+    fn put(&mut self, word: &[u8])
+        requires { self.old.len + length word.now ≤ length self.old.bytes.now }
+        ensures { Adds self.old word.now self.new }
+    {
+        let end = self.len + word.len();
+        self.bytes[self.len..end].copy_from_slice(word);
+        self.len = end;
     }
-    at
-}
 
-// Puts the line of each sector whose flag is 1.
-fn put_bad(text: &mut [u8], at: usize, flags: &[u8]) -> usize
-    requires { at + length flags.now * 32 ≤ length text.old }
-    ensures { Puts text.old at (bad_lines (flagged flags.now) (length flags.now)) result text.new × (result ≤ at + length flags.now * 32) }
-{
-    let mut next = at;
-    let mut i = 0;
-    while i < flags.len() {
-        let behind = put_flagged(text, next, flags[i], i);
-        next = behind;
-        i += 1;
+    // Adds a number.
+    fn put_decimal(&mut self, n: usize)
+        requires { self.old.len + 20 ≤ length self.old.bytes.now }
+        ensures { Adds self.old (decimal n) self.new × (self.new.len ≤ self.old.len + 20) }
+    {
+        let mut digits = [0u8; DIGITS];
+        let count = io::decimal(n as u64, &mut digits);
+        self.put(&digits[..count]);
     }
-    next
-}
 
-// Puts the lines of a check that found the flagged sectors bad.
-fn put_checked(text: &mut [u8], g: Layout, stores: usize, flags: &[u8], count: usize) -> usize
-    requires { (layout_ok g ≡ true) × (length flags.now ≡ g.provided) × (g.provided ≤ 128) × (8192 ≤ length text.old) }
-    ensures { Puts text.old 0 (checked_text g stores (flagged flags.now) count) result text.new }
-{
-    let after_layout = put_layout(text, g);
-    let after_replay = put_line(text, after_layout, b"replay ", stores);
-    let after_bad = put_bad(text, after_replay, flags);
-    put_line(text, after_bad, b"bad ", count)
-}
-
-// Reads each sector of a recovered volume, and puts the lines.
-fn check(
-    text: &mut [u8],
-    g: Layout,
-    stores: usize,
-    s: State,
-    v: &[u8],
-    st: &[u8],
-    flags: &mut [u8],
-) -> usize
-    requires { (layout_ok g ≡ true) × (length flags.old ≡ g.provided) × (g.provided ≤ 128) × (8192 ≤ length text.old) }
-    ensures { Puts text.old 0 (check_text g stores (is_bad s v.now st.now)) result text.new }
-{
-    let count = volume_check::bad_sectors(s, v, st, flags);
-    put_checked(text, g, stores, flags, count)
-}
-
-// Finishes the recovery of an image, and puts its report; the flags are for the sectors that it provides.
-fn report_on(image: &mut [u8], g: Layout, st: &mut [u8], flags: &mut [u8], text: &mut [u8]) -> usize
-    requires { (layout_ok g ≡ true) × (length flags.old ≡ g.provided) × (g.provided ≤ 128) × (8192 ≤ length text.old) }
-    ensures { Reports (report_from g (recover_of 0 image.old st.old)) text.old result text.new image.new }
-{
-    let answer = volume_check::recover(image, st, 0);
-    match answer {
-        RecoverAnswer::Recovered(s, stores) => check(text, g, stores, s, image, st, flags),
-        RecoverAnswer::Refused(r) => put_refused(text, r),
+    // Adds a word, then a number.
+    fn put_field(&mut self, word: &[u8], n: usize)
+        requires { self.old.len + length word.now + 20 ≤ length self.old.bytes.now }
+        ensures { Adds self.old (word.now ++ decimal n) self.new × (self.new.len ≤ self.old.len + length word.now + 20) }
+    {
+        self.put(word);
+        self.put_decimal(n);
     }
+
+    // Adds a word and a number, and ends the line.
+    fn put_line(&mut self, word: &[u8], n: usize)
+        requires { self.old.len + length word.now + 21 ≤ length self.old.bytes.now }
+        ensures { Adds self.old ((word.now ++ decimal n) ++ newline) self.new × (self.new.len ≤ self.old.len + length word.now + 21) }
+    {
+        self.put_field(word, n);
+        self.put(b"\n");
+    }
+
+    // Adds the line of a layout.
+    fn put_layout(&mut self, g: Layout)
+        requires { (layout_ok g ≡ true) × (self.old.len + 110 ≤ length self.old.bytes.now) }
+        ensures { Adds self.old (layout_line g) self.new × (self.new.len ≤ self.old.len + 110) }
+    {
+        self.put_field(b"tag ", g.width);
+        self.put_field(b" run ", layout::run_length(g));
+        self.put_field(b" sections ", g.sections);
+        self.put_line(b" provided ", g.provided);
+    }
+
+    // Adds the line of a bad sector where its flag is 1.
+    fn put_flagged(&mut self, flag: u8, n: usize)
+        requires { self.old.len + 32 ≤ length self.old.bytes.now }
+        ensures { Adds self.old (pick (eqb flag 1) (bad_line n) []) self.new × (self.new.len ≤ self.old.len + 32) }
+    {
+        if flag == 1 {
+            self.put_line(b"bad-sector ", n);
+        }
+    }
+
+    // Adds the line of each sector whose flag is 1.
+    fn put_bad(&mut self, flags: &[u8])
+        requires { self.old.len + length flags.now * 32 ≤ length self.old.bytes.now }
+        ensures { Adds self.old (bad_lines (flagged flags.now) (length flags.now)) self.new × (self.new.len ≤ self.old.len + length flags.now * 32) }
+    {
+        for (i, flag) in flags.iter().enumerate() {
+            self.put_flagged(*flag, i);
+        }
+    }
+
+    // Adds the lines of a check that found the flagged sectors bad.
+    fn put_checked(&mut self, g: Layout, stores: usize, flags: &[u8], count: usize)
+        requires { (layout_ok g ≡ true) × (length flags.now ≡ g.provided) × (g.provided ≤ 128) × (self.old.len + 8192 ≤ length self.old.bytes.now) }
+        ensures { Adds self.old (checked_text g stores (flagged flags.now) count) self.new }
+    {
+        self.put_layout(g);
+        self.put_line(b"replay ", stores);
+        self.put_bad(flags);
+        self.put_line(b"bad ", count);
+    }
+}
+
+// Finishes the recovery of an image, reads each sector that it provides, and adds the lines; where that is refused, none.
+fn check(image: &mut [u8], text: &mut Text) -> Result<(), Refusal>
+    requires { text.old.len + 8192 ≤ length text.old.bytes.now }
+    ensures { Checks (report_of image.old) text.old result text.new image.new }
+{
+    if MOST_IMAGE_SECTORS * SECTOR_SIZE < image.len() {
+        return Err(Refusal::Malformed);
+    }
+    let held = volume::query::query(image, 0)?;
+    let mut bytes = [0u8; STAGING_SIZE];
+    let staging = &mut bytes[..held.staging];
+    let opened = volume_check::recover(image, staging, 0)?;
+    let mut bad = [0u8; MOST_IMAGE_SECTORS];
+    let flags = &mut bad[..held.layout.provided];
+    let count = volume_check::bad_sectors(opened.state, image, staging, flags);
+    text.put_checked(held.layout, opened.stores, flags, count);
+    Ok(())
 }
 
 // The report of an image, as text at the start of a loan. Answers how long it is. The image is left as the check had it, recovered.
@@ -154,17 +137,12 @@ pub fn report(image: &mut [u8], text: &mut [u8; REPORT_SIZE]) -> usize
     ensures reports { Reports (report_of image.old) text.old result text.new image.new }
     ensures prefix_len { IsPrefixLen result text.new }
 {
-    if MOST_IMAGE_SECTORS * SECTOR_SIZE < image.len() {
-        return put_refused(text, Refusal::Malformed);
+    let mut lines = Text {
+        bytes: text,
+        len: 0,
+    };
+    if let Err(refusal) = check(image, &mut lines) {
+        lines.put_line(b"refused ", u32::from(refusal) as usize);
     }
-    let held = volume::query::query(image, 0);
-    match held {
-        QueryAnswer::Holds(g, n) => {
-            let provided = g.provided;
-            let mut staging = [0u8; STAGING_SIZE];
-            let mut flags = [0u8; MOST_IMAGE_SECTORS];
-            report_on(image, g, &mut staging[..n], &mut flags[..provided], text)
-        }
-        QueryAnswer::Refused(r) => put_refused(text, r),
-    }
+    lines.len
 }

@@ -1,12 +1,15 @@
-use Rattle.volume_check.proofs.Checks.{recovers, refuses}
+use mathlib.Core.Path.{◌≡◌, ap, ◌∙◌}
+use native.Mathlib.Omega.{arith}
+use Rattle.volume_check.specs.Check.{recovered, recover_from, recover_of}
 use Rattle.volume_check.proofs.recover.Goals as goal
 
--- src/lib.rt:20:1
-pub returns-in-Opened : goal.returns-in-Opened
-returns-in-Opened c =
-    recovers c.args.r c.args.v.now c.args.st.now c.open-answer.result _ c.open-answer.ensures _ _ c.in-Opened.is c.advance-last.result _ _ c.advance-last.ensures
+pub returns-in_err-opened : goal.returns-in_err-opened
+unfolding recover_of
+returns-in_err-opened c =
+    let same : c.from_residual.result ≡ c.open.result = grind arith in
+    rw (same, c.in_err-opened.was) (rw c.in_err-opened.was at (ap (recover_from c.args.v.now) c.open.ensures))
 
--- src/lib.rt:20:1
-pub returns-in-Refused : goal.returns-in-Refused
-returns-in-Refused c =
-    refuses c.args.r c.args.v.now c.args.st.now c.open-answer.result _ c.open-answer.ensures _ c.in-Refused.is
+pub returns : goal.returns
+unfolding recover_of
+returns c =
+    ap (recovered c.in_ok-opened.opened.stores) c.advance.ensures ∙ (rw c.in_ok-opened.was at (ap (recover_from c.args.v.now) c.open.ensures))
