@@ -1,7 +1,7 @@
 // The report of a check, as text, whose lines are defined in specs/Report.antt: R88 to R90.
 #![tactic(auto)]
 
-ghost use Rattle.std.specs.Prelude.{◌+◌, ◌*◌, ◌≤◌, true, [], ◌++◌, ◌≡◌, eqb, length};
+ghost use Rattle.std.specs.Prelude.{◌+◌, ◌*◌, ◌≤◌, true, [], ◌++◌, ◌≡◌, length};
 ghost use Rattle.io.specs.Counts.{IsPrefixLen};
 ghost use Rattle.octets.specs.Choice.{pick};
 ghost use Rattle.on_disk.specs.Layout.{layout_ok};
@@ -81,28 +81,28 @@ impl Text<'_> {
         self.put_line(b" provided ", g.provided);
     }
 
-    // Adds the line of a bad sector where its flag is 1.
-    fn put_flagged(&mut self, flag: u8, n: usize)
+    // Adds the line of a sector where it is bad.
+    fn put_flagged(&mut self, bad: bool, n: usize)
         requires { self.old.len + 32 ≤ length self.old.bytes.now }
-        ensures { Adds self.old (pick (eqb flag 1) (bad_line n) []) self.new × (self.new.len ≤ self.old.len + 32) }
+        ensures { Adds self.old (pick bad (bad_line n) []) self.new × (self.new.len ≤ self.old.len + 32) }
     {
-        if flag == 1 {
+        if bad {
             self.put_line(b"bad-sector ", n);
         }
     }
 
-    // Adds the line of each sector whose flag is 1.
-    fn put_bad(&mut self, flags: &[u8])
+    // Adds the line of each sector that is flagged.
+    fn put_bad(&mut self, flags: &[bool])
         requires { self.old.len + length flags.now * 32 ≤ length self.old.bytes.now }
         ensures { Adds self.old (bad_lines (flagged flags.now) (length flags.now)) self.new × (self.new.len ≤ self.old.len + length flags.now * 32) }
     {
-        for (i, flag) in flags.iter().enumerate() {
-            self.put_flagged(*flag, i);
+        for (i, bad) in flags.iter().enumerate() {
+            self.put_flagged(*bad, i);
         }
     }
 
     // Adds the lines of a check that found the flagged sectors bad.
-    fn put_checked(&mut self, g: Layout, stores: usize, flags: &[u8], count: usize)
+    fn put_checked(&mut self, g: Layout, stores: usize, flags: &[bool], count: usize)
         requires { (layout_ok g ≡ true) × (length flags.now ≡ g.provided) × (g.provided ≤ 128) × (self.old.len + 8192 ≤ length self.old.bytes.now) }
         ensures { Adds self.old (checked_text g stores (flagged flags.now) count) self.new }
     {
@@ -125,7 +125,7 @@ fn check(image: &mut [u8], text: &mut Text) -> Result<(), Refusal>
     let mut bytes = [0u8; STAGING_SIZE];
     let staging = &mut bytes[..held.staging];
     let opened = volume_check::recover(image, staging, 0)?;
-    let mut bad = [0u8; MOST_IMAGE_SECTORS];
+    let mut bad = [false; MOST_IMAGE_SECTORS];
     let flags = &mut bad[..held.layout.provided];
     let count = volume_check::bad_sectors(opened.state, image, staging, flags);
     text.put_checked(held.layout, opened.stores, flags, count);

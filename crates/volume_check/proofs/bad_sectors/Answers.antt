@@ -24,8 +24,8 @@ pub loop-i-preserved : goal.loop-i-preserved
 loop-i-preserved c =
     let bad = is_bad c.args.s c.args.v.now c.args.st.now in
     let turn = c.loop-i in
-    let flag : bool_byte c.is_bad-bad.result ≡ pick (bad turn.i) 1 0 = byte c.is_bad-bad.result ∙ ap (λ (b : Bool). pick b 1 0) c.is_bad-bad.ensures in (
-      take_more_set turn.flags turn.i c.from.result (omega arith) ∙ rw (add-one, turn.invariant.0, c.from.ensures, flag) refl,
-      rw (add-one, turn.invariant.1, c.from-count.ensures, flag) refl,
+    let more : bool_byte c.is_bad-bad.result ≡ pick (bad turn.i) 1 0 = byte c.is_bad-bad.result ∙ ap (λ (b : Bool). pick b 1 0) c.is_bad-bad.ensures in (
+      take_more_set turn.flags turn.i c.is_bad-bad.result (omega arith) ∙ rw (add-one, turn.invariant.0, c.is_bad-bad.ensures) refl,
+      rw (add-one, turn.invariant.1, c.from-count.ensures, more) refl,
       omega (arith, one c.is_bad-bad.result, c.from-count.ensures),
     )
