@@ -238,19 +238,33 @@ fn event_on(x: Setting, s: State, v: &mut [u8], st: &mut [u8], e: Event) -> Mome
 {
     match e.kind {
         Kind::Cut => at_rest(None),
-        Kind::Write => write_event(x.key, s, st, e.sector, &[e.fill; SECTOR_SIZE]),
-        Kind::ShortWrite => write_event(x.key, s, st, e.sector, &[e.fill; SHORT_SIZE]),
+        Kind::Write => {
+            let bytes = [e.fill; SECTOR_SIZE];
+            write_event(x.key, s, st, e.sector, &bytes)
+        }
+        Kind::ShortWrite => {
+            let bytes = [e.fill; SHORT_SIZE];
+            write_event(x.key, s, st, e.sector, &bytes)
+        }
         Kind::LongKeyWrite => {
             let long = [e.fill; LONG_KEY_SIZE];
-            write_event(Some(&long), s, st, e.sector, &[e.fill; SECTOR_SIZE])
+            let bytes = [e.fill; SECTOR_SIZE];
+            write_event(Some(&long), s, st, e.sector, &bytes)
         }
         Kind::Flush => flush_event(s),
         Kind::Step => step_event(s, v, st),
-        Kind::Read => read_event(x.key, s, v, st, e.sector, &mut [e.fill; SECTOR_SIZE]),
-        Kind::ShortRead => read_event(x.key, s, v, st, e.sector, &mut [e.fill; SHORT_SIZE]),
+        Kind::Read => {
+            let mut bytes = [e.fill; SECTOR_SIZE];
+            read_event(x.key, s, v, st, e.sector, &mut bytes)
+        }
+        Kind::ShortRead => {
+            let mut bytes = [e.fill; SHORT_SIZE];
+            read_event(x.key, s, v, st, e.sector, &mut bytes)
+        }
         Kind::LongKeyRead => {
             let long = [e.fill; LONG_KEY_SIZE];
-            read_event(Some(&long), s, v, st, e.sector, &mut [e.fill; SECTOR_SIZE])
+            let mut bytes = [e.fill; SECTOR_SIZE];
+            read_event(Some(&long), s, v, st, e.sector, &mut bytes)
         }
         Kind::Open | Kind::ShortOpen | Kind::LongKeyOpen => at_rest(Some(s)),
     }
