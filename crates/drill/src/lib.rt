@@ -230,7 +230,8 @@ fn after_open(a: Result<Opened, Refusal>) -> Moment
     }
 }
 
-// While a state is live, anything but an open (R58).
+// While a state is live, anything but an open (R58). The loans are filled in the functions that are called: an array in an arm would be filled for every
+// event, before the match.
 fn event_on(x: Setting, s: State, v: &mut [u8], st: &mut [u8], e: Event) -> Moment
     requires { key_fits (option_copied x.key) ≡ true }
     ensures { Turn (option_copied x.entry.key) x.entry.reserved v.old (on s st.old) st.old
