@@ -5,12 +5,12 @@
 // the call. Any bytes are one. Which lists a script can write is in specs/Script.antt.
 #![tactic(auto)]
 
-ghost use Rattle.std.specs.Prelude.{ℕ, ◌≡◌, true, List, Some, None, length, get_or, take, replicate, option_copied};
+ghost use Rattle.std.specs.Prelude.{ℕ, ◌≡◌, ◌≤◌, true, List, Some, None, length, get_or, take, replicate, option_copied};
 ghost use Rattle.octets.specs.Numbers.{value};
 ghost use Rattle.octets.specs.Parts.{part, patch};
 ghost use Rattle.model.specs.Refusal.{plain_answer, open_answer};
 ghost use Rattle.model.specs.Format.{format_of};
-ghost use Rattle.model.specs.Keyed.{format_keyed_of};
+ghost use Rattle.model.specs.Keyed.{format_keyed_of, write_keyed_of};
 ghost use Rattle.model.specs.Tag.{tag_of};
 ghost use Rattle.model.specs.Flush.{flush_of};
 ghost use Rattle.model.specs.Medium.{medium_of};
@@ -230,7 +230,8 @@ fn after_open(a: Result<Opened, Refusal>) -> Moment
     }
 }
 
-// While a state is live, anything but an open (R58).
+// While a state is live, anything but an open (R58). The loans are filled in the functions that are called: an array in an arm would be filled for every
+// event, before the match.
 fn event_on(x: Setting, s: State, v: &mut [u8], st: &mut [u8], e: Event) -> Moment
     requires { key_fits (option_copied x.key) ≡ true }
     ensures { Turn (option_copied x.entry.key) x.entry.reserved v.old (on s st.old) st.old
@@ -238,40 +239,41 @@ fn event_on(x: Setting, s: State, v: &mut [u8], st: &mut [u8], e: Event) -> Mome
 {
     match e.kind {
         Kind::Cut => at_rest(None),
-        Kind::Write => write_event(x.key, s, st, e.sector, &[e.fill; SECTOR_SIZE]),
-        Kind::ShortWrite => write_event(x.key, s, st, e.sector, &[e.fill; SHORT_SIZE]),
-        Kind::LongKeyWrite => {
-            let long = [e.fill; LONG_KEY_SIZE];
-            write_event(Some(&long), s, st, e.sector, &[e.fill; SECTOR_SIZE])
-        }
+        Kind::Write => write_event::<SECTOR_SIZE>(x.key, s, st, e),
+        Kind::ShortWrite => write_event::<SHORT_SIZE>(x.key, s, st, e),
+        Kind::LongKeyWrite => long_key_write(s, st, e),
         Kind::Flush => flush_event(s),
         Kind::Step => step_event(s, v, st),
-        Kind::Read => read_event(x.key, s, v, st, e.sector, &mut [e.fill; SECTOR_SIZE]),
-        Kind::ShortRead => read_event(x.key, s, v, st, e.sector, &mut [e.fill; SHORT_SIZE]),
-        Kind::LongKeyRead => {
-            let long = [e.fill; LONG_KEY_SIZE];
-            read_event(Some(&long), s, v, st, e.sector, &mut [e.fill; SECTOR_SIZE])
-        }
+        Kind::Read => read_event::<SECTOR_SIZE>(x.key, s, v, st, e),
+        Kind::ShortRead => read_event::<SHORT_SIZE>(x.key, s, v, st, e),
+        Kind::LongKeyRead => long_key_read(s, v, st, e),
         Kind::Open | Kind::ShortOpen | Kind::LongKeyOpen => at_rest(Some(s)),
     }
 }
 
-fn write_event(
-    key: Option<&[u8]>,
-    mut s: State,
-    st: &mut [u8],
-    sector: usize,
-    bytes: &[u8],
-) -> Moment
+// A write that is lent N bytes.
+fn write_event<const N: usize>(key: Option<&[u8]>, mut s: State, st: &mut [u8], e: Event) -> Moment
+    requires { N ≤ SECTOR_SIZE }
     ensures { (v : List ℕ) → world_of result v st.new
-        ≡ (lists.by_write (medium_of v) sector bytes.now
-        (write_under (option_copied key.entry) s st.old sector bytes.now)).world }
+        ≡ (lists.by_write (medium_of v) e.sector (replicate N e.fill)
+        (write_under (option_copied key.entry) s st.old e.sector (replicate N e.fill))).world }
 {
+    let bytes = [e.fill; N];
     let _ = match key {
-        None => volume::write::write(&mut s, st, sector, bytes),
-        Some(key) => volume::write::write_keyed(&mut s, st, sector, bytes, key),
+        None => volume::write::write(&mut s, st, e.sector, &bytes),
+        Some(key) => volume::write::write_keyed(&mut s, st, e.sector, &bytes, key),
     };
     at_rest(Some(s))
+}
+
+// A write with a key that no call takes.
+fn long_key_write(s: State, st: &mut [u8], e: Event) -> Moment
+    ensures { (v : List ℕ) → world_of result v st.new
+        ≡ (lists.by_write (medium_of v) e.sector (replicate SECTOR_SIZE e.fill)
+        (write_keyed_of (replicate LONG_KEY_SIZE e.fill) s st.old e.sector (replicate SECTOR_SIZE e.fill))).world }
+{
+    let key = [e.fill; LONG_KEY_SIZE];
+    write_event::<SECTOR_SIZE>(Some(&key), s, st, e)
 }
 
 fn flush_event(mut s: State) -> Moment
@@ -293,20 +295,23 @@ fn step_event(mut s: State, v: &mut [u8], st: &mut [u8]) -> Moment
     }
 }
 
-// A read, after which all is as it was.
-fn read_event(
-    key: Option<&[u8]>,
-    s: State,
-    v: &[u8],
-    st: &[u8],
-    sector: usize,
-    bytes: &mut [u8],
-) -> Moment
+// A read that is lent N bytes, after which all is as it was.
+fn read_event<const N: usize>(key: Option<&[u8]>, s: State, v: &[u8], st: &[u8], e: Event) -> Moment
+    requires { N ≤ SECTOR_SIZE }
     ensures { result ≡ at_rest (Some s) }
 {
+    let mut bytes = [e.fill; N];
     let _ = match key {
-        None => volume::read::read(s, v, st, sector, bytes),
-        Some(key) => volume::read::read_keyed(s, v, st, sector, bytes, key),
+        None => volume::read::read(s, v, st, e.sector, &mut bytes),
+        Some(key) => volume::read::read_keyed(s, v, st, e.sector, &mut bytes, key),
     };
     at_rest(Some(s))
+}
+
+// A read with a key that no call takes.
+fn long_key_read(s: State, v: &[u8], st: &[u8], e: Event) -> Moment
+    ensures { result ≡ at_rest (Some s) }
+{
+    let key = [e.fill; LONG_KEY_SIZE];
+    read_event::<SECTOR_SIZE>(Some(&key), s, v, st, e)
 }

@@ -1,6 +1,7 @@
 // The scripts. Between the calls of the two batches stand others that change nothing: reads, and calls with a loan of a wrong length or a key that no call
 // takes.
 ghost use Rattle.std.specs.Prelude.{◌≤◌};
+ghost use Rattle.drill_cuts.specs.declared.script.TheConstants.{SCRIPT};
 
 use crate::case::Case;
 use drill::{EVENT_SIZE, Kind};
@@ -13,7 +14,7 @@ const SCRIPT: usize = 2048;
 pub(crate) struct Script {
     bytes: [u8; SCRIPT],
     length: usize,
-    ghost within: { length ≤ 2048 },
+    ghost within: { length ≤ SCRIPT },
 }
 
 impl Script {

@@ -69,5 +69,5 @@ fn reads(case: Case, s: State, v: &[u8], st: &[u8], sector: usize, value: u8) ->
         None => volume::read::read(s, v, st, sector, &mut bytes),
         Some(key) => volume::read::read_keyed(s, v, st, sector, &mut bytes, key),
     };
-    answer.is_ok() && bytes.iter().all(|b| *b == value)
+    answer.is_ok() && bytes == [value; SECTOR_SIZE]
 }

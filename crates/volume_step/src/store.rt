@@ -14,7 +14,7 @@ pub fn put_part(v: &mut [u8], byte: usize, content: &[u8], n: usize)
     requires { (byte + n ≤ length v.old) × (n ≤ length content.now) }
     ensures { v.new ≡ patch v.old byte (part content.now 0 n) }
 {
-    v[byte..byte + n].copy_from_slice(&content[..n]);
+    octets::copy_at(v, byte, content, 0, n);
 }
 
 // Stores a sector.

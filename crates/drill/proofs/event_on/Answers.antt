@@ -19,5 +19,5 @@ pub returns-in-LongKeyWrite : goal.returns-in-LongKeyWrite
 unfolding long_key
 returns-in-LongKeyWrite c =
     let a = c.args in
-    writes-long (option_copied a.x.key) a.x.reserved a.e.kind a.e.sector a.e.fill a.v.now a.st.now a.s c.write_event-in-LongKeyWrite.result _
-    c.write_event-in-LongKeyWrite.ensures c.in-LongKeyWrite.is
+    writes-long (option_copied a.x.key) a.x.reserved a.e.kind a.e.sector a.e.fill a.v.now a.st.now a.s c.long_key_write.result _
+    c.long_key_write.ensures c.in-LongKeyWrite.is
