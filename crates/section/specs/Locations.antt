@@ -6,9 +6,9 @@
 -- stores_below g k sec i : the stores that bring the used entries below i home, in section k, whose bytes are sec
 -- stores_in g k sec   : those of all its used entries
 -- store_number g sec x : the number of x among the stores of its section, whose bytes are sec
--- FoundFrom g sec from x : x is the store that is as many stores on as `from` says, from the first of its entry; where the section has not so many, x has
---                      entry E and says how many are left
-use Rattle.std.specs.Prelude.{ℕ, ◌+◌, ◌<◌, List, ◌≢◌, ◌≡◌, length, get_or}
+-- FoundFrom g sec from r : r is the store that is as many stores on as `from` says, from the first of its entry; where the section has not so many, r
+--                      says how many are left
+use Rattle.std.specs.Prelude.{ℕ, ◌+◌, ◌<◌, Result, Ok, Err, List, ◌≢◌, ◌≡◌, length, get_or}
 use Rattle.on_disk.specs.Layout.{entry_count}
 use Rattle.on_disk.specs.Section.{unused, entry_of}
 use Rattle.octets.specs.Lists.{collect}
@@ -42,6 +42,6 @@ stores_in g k sec = entry_stores g (used_of g.width k sec)
 abbrev pub store_number : Layout → List ℕ → Location → ℕ
 store_number g sec x = length (stores_below g x.section sec x.entry) + x.store
 
-pub data FoundFrom (g : Layout) (sec : List ℕ) (from x : Location) : Type 0 where
-  missing : x.entry ≡ entry_count g.width → length (stores_in g x.section sec) + x.store ≡ store_number g sec from → FoundFrom g sec from x
-  found : Locates g sec x (get_or (stores_in g x.section sec) (store_number g sec x) no_store) → store_number g sec x ≡ store_number g sec from → FoundFrom g sec from x
+abbrev pub FoundFrom : Layout → List ℕ → Location → Result Location ℕ → Type 0
+FoundFrom g sec from (Ok x) = Locates g sec x (get_or (stores_in g x.section sec) (store_number g sec x) no_store) × (store_number g sec x ≡ store_number g sec from) × (x.section ≡ from.section)
+FoundFrom g sec from (Err left) = length (stores_in g from.section sec) + left ≡ store_number g sec from

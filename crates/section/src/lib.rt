@@ -158,30 +158,25 @@ pub fn stores_in(g: Layout, section: &[u8]) -> usize
 }
 
 // The store that is from.store stores on from the first of entry `from.entry`, of those that bring the section's used entries home. Where there are not
-// so many its entry is E, and its store how many are left.
-pub fn location_in(g: Layout, section: &[u8], from: Location) -> Location
+// so many, how many are left.
+pub fn location_in(g: Layout, section: &[u8], from: Location) -> Result<Location, usize>
     requires { (layout_ok g ≡ true) × (length section.now ≡ section_size g.width * sector_size) × (from.entry ≤ entry_count g.width) }
-    ensures { FoundFrom g section.now from result × (result.section ≡ from.section) }
+    ensures { FoundFrom g section.now from result }
 {
-    let count = layout::entry_count(g.width);
     let mut left = from.store;
-    for i in from.entry..count {
+    for i in from.entry..layout::entry_count(g.width) {
         let sector = entry_sector(section, g.width, i);
         if sector != UNUSED {
             let home = layout::home_stores(g, sector);
             if left < home {
-                return Location {
+                return Ok(Location {
                     entry: i,
                     store: left,
                     ..from
-                };
+                });
             }
             left -= home;
         }
     }
-    Location {
-        entry: count,
-        store: left,
-        ..from
-    }
+    Err(left)
 }

@@ -61,10 +61,10 @@ fn check_replay(rule: Rule, ids: &[u64; MOST_SECTIONS], v: &[u8], g: Layout) -> 
     requires { (layout_ok g ≡ true) × (needed g * sector_size ≤ length v.now) × (ids.now ≡ ids_of g v.now) }
     ensures { plain_answer result ≡ entries_verdict (tag_by rule g.width) g (replay g v.now) }
 {
-    let mut k = sections::next_section(ids, g.sections, 0, 0);
-    while k < g.sections {
+    let mut next = sections::next_section(ids, g.sections, 0, 0);
+    while let Some(k) = next {
         check_section(rule, g, sections::section_of(v, g, k), k)?;
-        k = sections::next_section(ids, g.sections, ids[k], k);
+        next = sections::next_section(ids, g.sections, ids[k], k);
     }
     Ok(())
 }

@@ -4,14 +4,14 @@ use native.Mathlib.Omega.{arith}
 use lib.ListN.{length}
 use Rattle.on_disk.specs.Layout.{entry_count}
 use Rattle.on_disk.specs.Section.{entry_of}
-use Rattle.section.specs.Locations.{stores_below, missing, found}
+use Rattle.section.specs.Locations.{stores_below}
 use Rattle.layout.proofs.Sizes.{width-high}
 use Rattle.section.proofs.Counts.{count-used, count-unused, locates}
 use Rattle.section.proofs.location_in.Goals as goal
 use Rattle.section.proofs.location_in.Goals.{then-sector+else-left-home, else-sector}
 
-pub entry_count-count-requires : goal.entry_count-count-requires
-entry_count-count-requires c = width-high c.args.g c.requires.0
+pub entry_count-i-end-requires : goal.entry_count-i-end-requires
+entry_count-i-end-requires c = width-high c.args.g c.requires.0
 
 pub entry_sector-sector-requires : goal.entry_sector-sector-requires
 entry_sector-sector-requires c = (width-high c.args.g c.requires.0, omega arith, c.requires.1)
@@ -25,7 +25,7 @@ returns-then-left-home c =
     let home = c.home_stores-home.ensures.0 (entry_of g.width section turn.i) (sym sector) in
     let here = locates g section (record { section = c.args.from.section; entry = turn.i; store = turn.left }) (omega arith)
     (λ q. c.if-sector.true (sector ∙ q)) (omega (arith, home, c.if-left-home.true)) in
-    (found here turn.invariant, refl)
+    (here, turn.invariant, refl)
 
 pub loop-i-preserved : goal.loop-i-preserved
 loop-i-preserved c =
@@ -46,4 +46,4 @@ returns c =
     let g = c.args.g in
     let all : turn.i ≡ entry_count g.width = omega arith in
     let stores = ap (λ (i : ℕ). length (stores_below g c.args.from.section c.args.section.now i)) all in
-    (missing c.entry_count-count.ensures.0 (omega (arith, stores, turn.invariant)), refl)
+    omega (arith, stores, turn.invariant)
