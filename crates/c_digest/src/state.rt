@@ -36,8 +36,7 @@ pub fn decode(buffer: &[u8]) -> State
     State { words, tail, count }
 }
 
-// The words of the state in a buffer. Not inlined: what the reading of each takes would lie on the stack below the digest of the piece.
-#[inline(never)]
+// The words of the state in a buffer.
 fn read_words(buffer: &[u8]) -> [u32; 8]
     requires { length buffer.now ≡ digest_state_size }
     ensures { result ≡ words_of 8 buffer.now }

@@ -89,14 +89,11 @@ fn xored(mut block: [u8; 64], x: u8) -> [u8; 64]
     block
 }
 
-// The hash value behind one block. By a match, which takes less stack than `unwrap`: that would move the state.
+// The hash value behind one block.
 fn hash_behind(block: [u8; 64]) -> [u32; 8]
     ensures { result ≡ hash_behind block }
 {
-    match digest::update(digest::fresh(), &block) {
-        Ok(s) => s.words,
-        Err(_) => unreachable!(),
-    }
+    digest::update(digest::fresh(), &block).unwrap().words
 }
 
 // What is kept of a key.
