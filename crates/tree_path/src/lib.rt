@@ -13,7 +13,8 @@ ghost use Rattle.digest.specs.Sha256.{digest_size};
 ghost use Rattle.tree_path.specs.Places.{block_size, longest_salt};
 ghost use Rattle.tree_path.specs.Tree.{block_digest};
 
-// The digest of a block, the salt being put before it.
+// The digest of a block, the salt being put before it. Not inlined: what each call of a build takes would lie on the stack at once.
+#[inline(never)]
 pub fn block_digest(salt: &[u8], block: &[u8]) -> [u8; digest::DIGEST_SIZE]
     requires { (length salt.now ≤ longest_salt) × (length block.now ≤ block_size) }
     ensures { (result ≡ block_digest salt.now block.now) × (length result ≡ digest_size) }
