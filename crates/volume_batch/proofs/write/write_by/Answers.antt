@@ -1,9 +1,11 @@
-use mathlib.Core.Path.{sym, ◌∙◌}
+use mathlib.Core.Bool.{true}
+use mathlib.Core.Path.{◌≡◌, sym, ◌∙◌}
 use native.Mathlib.Omega.{arith}
 use borrow.Author.Tests.{le-leb, lt-leb}
 use Rattle.layout.proofs.Sizes.{width-high}
 use Rattle.on_disk.specs.Layout.{entry_count}
 use Rattle.model.proofs.States.{state-layout, staging-length}
+use Rattle.model.specs.State.{is_filling}
 use Rattle.model.specs.Write.{write_of}
 use Rattle.volume_batch.proofs.Writes.{state-ok, staging-ok, sector-length}
 use Rattle.volume_batch.proofs.write.write_by.Goals as goal
@@ -14,7 +16,9 @@ returns-then-not-is_filling c = rw (c.requires, sym c.is_filling.ensures ∙ c.i
 
 pub returns-then-s-sector : goal.returns-then-s-sector
 unfolding write_of
-returns-then-s-sector c = rw (c.requires, sym c.is_filling.ensures ∙ c.if-not-is_filling.false, le-leb c.args.s.now.layout.provided c.args.sector c.if-s-sector.true)
+returns-then-s-sector c =
+    let filling : is_filling c.args.s.now.phase ≡ true = sym c.is_filling.ensures ∙ c.if-not-is_filling.false in
+    rw (c.requires, filling, le-leb c.args.s.now.layout.provided c.args.sector c.if-s-sector.true)
 
 pub entry_count-requires : goal.entry_count-requires
 entry_count-requires c =

@@ -1,5 +1,6 @@
 use Prim.Native.Nat.{◌+◌, ◌*◌, ◌≤◌}
-use mathlib.Core.Path.{sym, ◌∙◌}
+use mathlib.Core.Bool.{false}
+use mathlib.Core.Path.{◌≡◌, sym, ◌∙◌}
 use native.Mathlib.Omega.{arith}
 use borrow.Author.Tests.{le-leb}
 use lib.ListN.{length}
@@ -7,6 +8,7 @@ use Rattle.octets.proofs.Lists.{some-below}
 use Rattle.on_disk.proofs.Addresses.{ranged, data-room}
 use Rattle.layout.proofs.Sizes.{width-high, provided-high}
 use Rattle.model.proofs.States.{state-layout, state-count, staged-length, volume-room}
+use Rattle.model.specs.State.{is_recovering}
 use Rattle.model.specs.Read.{staged_for, read_of}
 use Rattle.sound.specs.Rule.{tag_by}
 use Rattle.volume_read.proofs.Reading.{found-staged, mismatch, found-home, state-ok, volume-ok, staged-ok, sector-length, sector-copied}
@@ -18,7 +20,9 @@ returns-then-is_recovering c = rw (c.requires, sym c.is_recovering.ensures ∙ c
 
 pub returns-then-g-sector : goal.returns-then-g-sector
 unfolding read_of
-returns-then-g-sector c = rw (c.requires, sym c.is_recovering.ensures ∙ c.if-is_recovering.false, le-leb c.args.s.layout.provided c.args.sector c.if-g-sector.true)
+returns-then-g-sector c =
+    let ready : is_recovering c.args.s.phase ≡ false = sym c.is_recovering.ensures ∙ c.if-is_recovering.false in
+    rw (c.requires, ready, le-leb c.args.s.layout.provided c.args.sector c.if-g-sector.true)
 
 pub newest_for-requires : goal.newest_for-requires
 newest_for-requires c =
