@@ -23,7 +23,7 @@ use Rattle.model.specs.Open.{OpenResult, open_of}
 use Rattle.model.specs.Write.{WriteResult, write_of}
 use Rattle.model.specs.World as lists
 use Rattle.model.specs.Medium.{medium_of}
-use Rattle.model.specs.World.{Event, off, on, World, by_open, by_write, happens}
+use Rattle.model.specs.World.{Event, off, on, World, by_open, by_write}
 use Rattle.model.specs.declared.Opened.{Opened}
 use Rattle.model.specs.declared.Refusal.{Refusal}
 use Rattle.model.specs.declared.State.{State}

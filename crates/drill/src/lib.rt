@@ -8,7 +8,7 @@
 ghost use Rattle.std.specs.Prelude.{ℕ, ◌≡◌, ◌≤◌, true, List, Some, None, length, get_or, take, replicate, option_copied};
 ghost use Rattle.octets.specs.Numbers.{value};
 ghost use Rattle.octets.specs.Parts.{part, patch};
-ghost use Rattle.model.specs.Refusal.{plain_answer, open_answer};
+ghost use Rattle.model.specs.Refusal.{open_answer};
 ghost use Rattle.model.specs.Format.{format_of};
 ghost use Rattle.model.specs.Keyed.{format_keyed_of, write_keyed_of};
 ghost use Rattle.model.specs.Tag.{tag_of};

@@ -7,17 +7,17 @@ use mathlib.Core.Path.{◌≡◌, ◌∙◌}
 use native.Mathlib.Omega.{arith}
 use lib.IntN.{negsuc}
 use lib.ListN.{length}
-use Rattle.std.specs.Prelude.{Result, Err}
+use Rattle.std.specs.Prelude.{Result, Ok, Err}
 use Rattle.octets.specs.Answer.{taken, refuse}
 use Rattle.octets.specs.Parts.{same}
 use Rattle.digest.specs.Sha256.{sha256}
 use Rattle.tree.specs.declared.Refusal as code
-use Rattle.tree.specs.declared.Refusal.TheVariants.{LevelDiffers}
+use Rattle.tree.specs.declared.Refusal.TheVariants.{OutOfRange, LevelDiffers}
 use Rattle.tree.specs.Answer.{answer_of, mismatch}
 use Rattle.tree_path.specs.Places.{parents_of, levels_above, levels_of, places_of, tree_length}
 use Rattle.tree_path.specs.Tree.{block_of}
 use Rattle.tree_path.specs.Path.{computed_of, standing_of}
-use Rattle.tree.specs.Build.{not_built, build_of}
+use Rattle.tree.specs.Build.{outcome_of, not_built, build_of}
 use Rattle.tree.specs.Verify.{verify_of}
 use Rattle.tree.specs.Acceptance.{Fits, Acceptable}
 use Rattle.tree.specs.Theorems.{DiffersAt}
@@ -55,7 +55,15 @@ module _ (b : List ℕ) (i : ℕ) (t : List ℕ) (n : ℕ) (s r : List ℕ) wher
 -- ---- two levels are told apart
 
 levels-apart : (l m : ℕ) → answer_of (Err (LevelDiffers l)) ≡ answer_of (Err (LevelDiffers m)) → ◌≡◌ {A = Result (Unit {0}) code.Refusal} (Err (LevelDiffers l)) (Err (LevelDiffers m))
-levels-apart l m = answers-differ (Err (LevelDiffers l)) (Err (LevelDiffers m))
+levels-apart l m = answers-differ.0 (Err (LevelDiffers l)) (Err (LevelDiffers m))
+
+-- ---- two root digests are told apart, and a root digest from a refusal
+
+roots-apart : (r q t : List ℕ) → outcome_of (Ok r) t ≡ outcome_of (Ok q) t → ◌≡◌ {A = Result (List ℕ) code.Refusal} (Ok r) (Ok q)
+roots-apart r q t = answers-differ.1 (Ok r) (Ok q) t t
+
+never-refused : (r t : List ℕ) → outcome_of (Ok r) t ≡ outcome_of (Err OutOfRange) t → ◌≡◌ {A = Result (List ℕ) code.Refusal} (Ok r) (Err OutOfRange)
+never-refused r t = answers-differ.1 (Ok r) (Err OutOfRange) t t
 
 -- ---- one data block, under the longest salt: what is built, a tree loan that is not empty, and a block that is verified
 

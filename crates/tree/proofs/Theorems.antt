@@ -10,6 +10,7 @@ use lib.ListN.{length}
 use borrow.Author.Tests.{ne_eqb, lt-leb, le-leb, eqb-true, eqb-false, ltb-false, leb-false, not-false}
 use Rattle.std.specs.Prelude.{Result, Ok, Err}
 use Rattle.octets.specs.Answer.{Answer, taken, refused, refuse, number_in}
+use Rattle.octets.specs.Answer as octets
 use Rattle.octets.specs.Choice.{pick, first_met}
 use Rattle.octets.proofs.Choice.{Unmet, unmet}
 use Rattle.octets.proofs.Parts.{length_part}
@@ -19,8 +20,8 @@ use Rattle.digest.specs.Sha256.{digest_size}
 use Rattle.tree_path.specs.Places.{block_size, digests_per_block, most_blocks, longest_salt, levels_above, levels_of, hash_blocks_of, places_of, tree_length}
 use Rattle.tree_path.specs.Tree.{block_of, tree_of, root_of}
 use Rattle.tree_path.specs.Path.{risers_of, computed_of, standing_of, Verifies}
-use Rattle.tree.specs.Answer.{level_at, mismatch, answer_of}
-use Rattle.tree.specs.Build.{BuildOutcome, built_of, build_of}
+use Rattle.tree.specs.Answer.{level_at, mismatch, refusal_of, answer_of}
+use Rattle.tree.specs.Build.{BuildOutcome, outcome_of, built_of, build_of}
 use Rattle.tree.specs.Verify.{loan_rows, path_rows, compared_of, verify_of}
 use Rattle.tree.specs.Acceptance.{Fits, Acceptable}
 use Rattle.tree.specs.Theorems.{AnswersDiffer, AcceptsExactly, BuiltIsAccepted, DiffersAt, NamesHighest, OneBlockBuilt, OneBlockVerified, FromTwoBlocks, PathDigests}
@@ -33,26 +34,40 @@ use Rattle.tree.proofs.Returns.{verify-path, build-made}
 
 -- ---- answers
 
--- the answer, from number and values
-told : Answer ℤ (Unit {0}) → Result (Unit {0}) code.Refusal
-told (taken x) = Ok x
-told (refused r) = Err (go r.number r.values)
+-- a refusal, from its number and values
+case_told : octets.Refusal ℤ → code.Refusal
+case_told r = go r.number r.values
   where
     go : ℕ → List ℤ → code.Refusal
     go n (pos l ∷ vs) = LevelDiffers l
     go n (negsuc x ∷ vs) = DataDiffers
     go n [] = pick (eqb n 1) WrongLength OutOfRange
 
-told_back : (a : Result (Unit {0}) code.Refusal) → told (answer_of a) ≡ a
-unfolding told
-told_back (Ok x) = refl
-told_back (Err WrongLength) = refl
-told_back (Err OutOfRange) = refl
-told_back (Err DataDiffers) = refl
-told_back (Err (LevelDiffers l)) = refl
+case_back : (r : code.Refusal) → case_told (refusal_of r) ≡ r
+unfolding case_told
+case_back WrongLength = refl
+case_back OutOfRange = refl
+case_back DataDiffers = refl
+case_back (LevelDiffers l) = refl
+
+-- what a call returned, from its answer and what it gave
+abbrev told : {A : Type 0} → Answer ℤ (Unit {0}) → A → Result A code.Refusal
+told (taken x) given = Ok given
+told (refused r) given = Err (case_told r)
+
+verified_back : (a : Result (Unit {0}) code.Refusal) → told (answer_of a) tt ≡ a
+verified_back (Ok x) = refl
+verified_back (Err r) = ap Err (case_back r)
+
+built_back : (a : Result (List ℕ) code.Refusal) (t : List ℕ) → told (outcome_of a t).answer (outcome_of a t).root ≡ a
+built_back (Ok root) t = refl
+built_back (Err r) t = ap Err (case_back r)
 
 pub answers-differ : AnswersDiffer
-answers-differ a b e = sym (told_back a) ∙ ap told e ∙ told_back b
+answers-differ = (
+  λ a b e. sym (verified_back a) ∙ ap (λ (x : Answer ℤ (Unit {0})). told x tt) e ∙ verified_back b,
+  λ a b t u e. sym (built_back a t) ∙ ap (λ (o : BuildOutcome). told o.answer o.root) e ∙ built_back b u,
+)
 
 -- ---- verifying
 

@@ -9,13 +9,15 @@ use Rattle.tree_path.specs.Tree.{block_of}
 use Rattle.tree_path.specs.Path.{computed_of, standing_of}
 use Rattle.tree.specs.declared.Refusal as code
 use Rattle.tree.specs.Answer.{mismatch, answer_of}
-use Rattle.tree.specs.Build.{not_built, build_of}
+use Rattle.tree.specs.Build.{outcome_of, not_built, build_of}
 use Rattle.tree.specs.Verify.{verify_of}
 use Rattle.tree.specs.Acceptance.{Fits, Acceptable}
 
--- Number and values tell the answers apart: a contract that states them states the answer.
+-- Number and values tell the answers apart, verify's and build's: a contract that states them states the answer.
 abbrev pub AnswersDiffer : Type 0
-AnswersDiffer = (a b : Result (Unit {0}) code.Refusal) → answer_of a ≡ answer_of b → a ≡ b
+AnswersDiffer =
+    ((a b : Result (Unit {0}) code.Refusal) → answer_of a ≡ answer_of b → a ≡ b)
+    × ((a b : Result (List ℕ) code.Refusal) (t u : List ℕ) → outcome_of a t ≡ outcome_of b u → a ≡ b)
 
 -- Verifying accepts exactly the blocks that are to be accepted.
 abbrev pub AcceptsExactly : Type 0

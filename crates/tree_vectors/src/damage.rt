@@ -25,6 +25,25 @@ struct Loans<'a> {
     root: &'a [u8],
 }
 
+impl<'a> Loans<'a> {
+    // The same loans with another block, root digest, salt or tree.
+    fn with_block(self, block: &'a [u8]) -> Loans<'a> {
+        Loans { block, ..self }
+    }
+
+    fn with_root(self, root: &'a [u8]) -> Loans<'a> {
+        Loans { root, ..self }
+    }
+
+    fn with_salt(self, salt: &'a [u8]) -> Loans<'a> {
+        Loans { salt, ..self }
+    }
+
+    fn with_tree(self, tree: &'a [u8]) -> Loans<'a> {
+        Loans { tree, ..self }
+    }
+}
+
 pub(crate) fn answers<W: Write>(out: &mut W, image: &[u8], salts: &[u8]) -> io::Result<()> {
     let salt = span(salts, 0, 8);
     let mut tree = [0u8; TREE];
@@ -122,27 +141,13 @@ fn block_bit<W: Write>(out: &mut W, name: &[u8], loans: Loans) -> io::Result<()>
 // A bit of the root digest.
 fn root_bit<W: Write>(out: &mut W, name: &[u8], loans: Loans) -> io::Result<()> {
     let root = flipped::<DIGEST_SIZE>(loans.root, &[31]);
-    verified(
-        out,
-        name,
-        Loans {
-            root: &root,
-            ..loans
-        },
-    )
+    verified(out, name, loans.with_root(&root))
 }
 
 // Bits of the tree, in the bytes at these places.
 fn tree_bits<W: Write>(out: &mut W, name: &[u8], places: &[usize], loans: Loans) -> io::Result<()> {
     let tree = flipped::<TREE>(loans.tree, places);
-    verified(
-        out,
-        name,
-        Loans {
-            tree: &tree,
-            ..loans
-        },
-    )
+    verified(out, name, loans.with_tree(&tree))
 }
 
 // Level 0 on the path.
@@ -168,62 +173,13 @@ fn lengths<W: Write>(out: &mut W, image: &[u8], salts: &[u8], five: Loans) -> io
     let short_root = span(five.root, 0, 31);
     let short_tree = span(five.tree, 0, 12287);
     let long_tree = span(image, 0, 12289);
-    verified(
-        out,
-        b"short block",
-        Loans {
-            block: short_block,
-            ..five
-        },
-    )?;
-    verified(
-        out,
-        b"long block",
-        Loans {
-            block: long_block,
-            ..five
-        },
-    )?;
-    verified(
-        out,
-        b"short root digest",
-        Loans {
-            root: short_root,
-            ..five
-        },
-    )?;
-    verified(
-        out,
-        b"long root digest",
-        Loans {
-            root: salts,
-            ..five
-        },
-    )?;
-    verified(
-        out,
-        b"long salt",
-        Loans {
-            salt: salts,
-            ..five
-        },
-    )?;
-    verified(
-        out,
-        b"short tree",
-        Loans {
-            tree: short_tree,
-            ..five
-        },
-    )?;
-    verified(
-        out,
-        b"long tree",
-        Loans {
-            tree: long_tree,
-            ..five
-        },
-    )
+    verified(out, b"short block", five.with_block(short_block))?;
+    verified(out, b"long block", five.with_block(long_block))?;
+    verified(out, b"short root digest", five.with_root(short_root))?;
+    verified(out, b"long root digest", five.with_root(salts))?;
+    verified(out, b"long salt", five.with_salt(salts))?;
+    verified(out, b"short tree", five.with_tree(short_tree))?;
+    verified(out, b"long tree", five.with_tree(long_tree))
 }
 
 // The count and the index.

@@ -1,4 +1,4 @@
--- After i turns the first i flags are set, and those of them that are 1 are counted.
+-- After i turns the first i flags are set, and those of them that are true are counted.
 use Prim.Native.Nat.{◌≤◌}
 use mathlib.Core.Path.{◌≡◌}
 use lib.ListN.{take}
