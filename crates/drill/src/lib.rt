@@ -23,7 +23,7 @@ use model::{Opened, Refusal, State};
 use on_disk::Layout;
 use volume::SECTOR_SIZE;
 
-// The kinds of event. A short one is made with a loan of a wrong length, one with a long key with a key that no call takes.
+// The kinds of event, each with its number. A short one is made with a loan of a wrong length, one with a long key with a key that no call takes.
 #[derive(Clone, Copy)]
 pub enum Kind {
     Cut = 0,
@@ -38,6 +38,15 @@ pub enum Kind {
     LongKeyOpen = 9,
     LongKeyWrite = 10,
     LongKeyRead = 11,
+}
+
+// The number of a kind, as a script has it.
+impl From<Kind> for u8 {
+    ghost from_gives = { λ k n. kind_of n ≡ k };
+
+    fn from(k: Kind) -> u8 {
+        k as u8
+    }
 }
 
 // The kind with a number; any that has none is a read's.

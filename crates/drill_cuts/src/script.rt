@@ -90,7 +90,7 @@ impl Script {
         if SCRIPT < end {
             return;
         }
-        self.bytes[self.length..end].copy_from_slice(&[kind as u8, sector, 0, fill]);
+        self.bytes[self.length..end].copy_from_slice(&[u8::from(kind), sector, 0, fill]);
         self.length = end;
     }
 }

@@ -3,9 +3,9 @@
 -- recover_of r v st  : the call: open, then as many steps as it reports are to come. Its answer, as open's: the state, and how many stores there were; or
 --                      open's refusal. And volume and staging afterwards
 -- is_bad s v st n    : whether sector n is bad: the volume provides it, and a read of it is refused. Where the volume is filling, that is by refusal 7 alone
--- flags_of bad n     : a flag for each sector below n: whether it is bad
+-- flags_of bad n     : a byte for each sector below n: 1 where it is bad, else 0
 -- count_of bad n     : how many of them are bad
--- Flagged bad n r l : r is how many, and l the flags
+-- Flagged bad n r l : r is how many, and l the bytes
 use Rattle.std.specs.Prelude.{ℕ, zero, suc, ◌+◌, Bool, not, ◌&&◌, ◌≡◌, List, [], ◌∷◌, replicate, ltb}
 use Rattle.octets.specs.Answer.{Answer, taken, refused, is_taken}
 use Rattle.octets.specs.Choice.{pick}
@@ -42,12 +42,12 @@ is_bad s v st n =
 
 -- ---- of the sectors below n, those of which a test holds
 
-abbrev pub flags_of : (ℕ → Bool) → ℕ → List Bool
-flags_of bad n = collect n (λ i. bad i ∷ [])
+abbrev pub flags_of : (ℕ → Bool) → ℕ → List ℕ
+flags_of bad n = collect n (λ i. pick (bad i) 1 0 ∷ [])
 
 abbrev pub count_of : (ℕ → Bool) → ℕ → ℕ
 count_of bad zero = 0
 count_of bad (suc n) = count_of bad n + pick (bad n) 1 0
 
-abbrev pub Flagged : (ℕ → Bool) → ℕ → ℕ → List Bool → Type 0
+abbrev pub Flagged : (ℕ → Bool) → ℕ → ℕ → List ℕ → Type 0
 Flagged bad n r l = (r ≡ count_of bad n) × (l ≡ flags_of bad n)

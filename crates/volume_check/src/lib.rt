@@ -25,13 +25,13 @@ fn is_bad(s: State, v: &[u8], st: &[u8], n: usize) -> bool
     n < s.layout.provided && volume::read::read(s, v, st, n, &mut bytes).is_err()
 }
 
-// Which sectors are bad, a flag for each, as many as are lent. Answers how many are.
-pub fn bad_sectors(s: State, v: &[u8], st: &[u8], flags: &mut [bool]) -> usize
+// Which sectors are bad, a byte for each, as many as are lent: 1 for a bad one, else 0. Answers how many are.
+pub fn bad_sectors(s: State, v: &[u8], st: &[u8], flags: &mut [u8]) -> usize
     ensures { Flagged (is_bad s v.now st.now) (length flags.old) result flags.new }
 {
     let mut count = 0;
     for i in 0..flags.len() {
-        let bad = is_bad(s, v, st, i);
+        let bad = u8::from(is_bad(s, v, st, i));
         flags[i] = bad;
         count += usize::from(bad);
     }

@@ -1,9 +1,10 @@
 -- Texts, put one behind the other.
 use Prim.Native.Nat.{ℕ, zero, suc, ◌+◌, ◌≤◌, ◌<◌}
-use mathlib.Core.Bool.{Bool}
+use mathlib.Core.Bool.{Bool, true, false}
 use mathlib.Core.List.{List, [], ◌++◌}
 use mathlib.Core.Path.{◌≡◌, refl, sym, ap, ◌∙◌, subst}
 use native.Mathlib.Omega.{arith}
+use lib.Dec.{eqb}
 use lib.ListN.{length, take, drop, length-append, take-append-drop}
 use Rattle.octets.specs.Choice.{pick}
 use Rattle.octets.specs.Parts.{patch}
@@ -55,12 +56,16 @@ collect-same f h (suc n) m e l = λ i. collect-same f h n m e (omega arith) i ++
 pub flags-lines : (bad : ℕ → Bool) (n : ℕ) → bad_lines (flagged (flags_of bad n)) n ≡ bad_lines bad n
 flags-lines bad n =
     collect-same (λ s. pick (flagged (flags_of bad n) s) (bad_line s) []) (λ s. pick (bad s) (bad_line s) []) n n
-    (λ i l. ap (λ (b : Bool). pick b (bad_line i) []) (get_flags bad n i l)) (omega arith)
+    (λ i l. ap (λ (k : ℕ). pick (eqb k 1) (bad_line i) []) (get_flags bad n i l) ∙ flag-line i (bad i)) (omega arith)
+  where
+    flag-line : (i : ℕ) (b : Bool) → pick (eqb (pick b 1 0) 1) (bad_line i) [] ≡ pick b (bad_line i) []
+    flag-line i true = refl
+    flag-line i false = refl
 
 -- the lines of a check, by the flags and the count that it found
-pub checked-text : (g : Layout) (stores : ℕ) (bad : ℕ → Bool) (n : ℕ) {flags : List Bool} {count : ℕ} → n ≡ g.provided
+pub checked-text : (g : Layout) (stores : ℕ) (bad : ℕ → Bool) (n : ℕ) {flags : List ℕ} {count : ℕ} → n ≡ g.provided
     → flags ≡ flags_of bad n → count ≡ count_of bad n → checked_text g stores (flagged flags) count ≡ check_text g stores bad
 checked-text g stores bad n {flags} {count} size e q =
     let lines : bad_lines (flagged flags) g.provided ≡ bad_lines bad g.provided =
-    ap (λ (f : List Bool). bad_lines (flagged f) g.provided) (e ∙ ap (flags_of bad) size) ∙ flags-lines bad g.provided in
+    ap (λ (f : List ℕ). bad_lines (flagged f) g.provided) (e ∙ ap (flags_of bad) size) ∙ flags-lines bad g.provided in
     λ i. layout_line g ++ line_of "replay " stores ++ lines i ++ line_of "bad " ((q ∙ ap (count_of bad) size) i)

@@ -13,7 +13,7 @@
 -- Puts .., Reports .. : that a call put a text, or a report, in a loan
 use Prim.Native.Char.{code}
 use Prim.Native.String.{String, [] as no_text, ◌∷◌ as ◌then◌}
-use Rattle.std.specs.Prelude.{ℕ, zero, suc, ◌+◌, ◌*◌, ◌/◌, ◌≤◌, Bool, false, List, [], ◌∷◌, ◌++◌, ◌≡◌, length, get_or, replicate, ltb}
+use Rattle.std.specs.Prelude.{ℕ, zero, suc, ◌+◌, ◌*◌, ◌/◌, ◌≤◌, Bool, false, List, [], ◌∷◌, ◌++◌, ◌≡◌, length, get_or, replicate, ltb, eqb}
 use Rattle.io.specs.Digits.{last_digits}
 use Rattle.octets.specs.Answer.{Refusal, Answer, taken, refused, refusal}
 use Rattle.octets.specs.Choice.{pick}
@@ -71,9 +71,9 @@ bad_line s = line_of "bad-sector " s
 abbrev pub bad_lines : (ℕ → Bool) → ℕ → List ℕ
 bad_lines bad n = collect n (λ s. pick (bad s) (bad_line s) [])
 
--- the flag of a sector
-abbrev pub flagged : List Bool → ℕ → Bool
-flagged flags s = get_or flags s false
+-- whether a byte of a list of flags is 1
+abbrev pub flagged : List ℕ → ℕ → Bool
+flagged flags s = eqb (get_or flags s 0) 1
 
 abbrev pub checked_text : Layout → ℕ → (ℕ → Bool) → ℕ → List ℕ
 checked_text g stores bad count = layout_line g ++ line_of "replay " stores ++ bad_lines bad g.provided ++ line_of "bad " count

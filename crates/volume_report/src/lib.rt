@@ -91,18 +91,18 @@ impl Text<'_> {
         }
     }
 
-    // Adds the line of each sector that is flagged.
-    fn put_bad(&mut self, flags: &[bool])
+    // Adds the line of each sector whose flag is 1.
+    fn put_bad(&mut self, flags: &[u8])
         requires { self.old.len + length flags.now * 32 ≤ length self.old.bytes.now }
         ensures { Adds self.old (bad_lines (flagged flags.now) (length flags.now)) self.new × (self.new.len ≤ self.old.len + length flags.now * 32) }
     {
-        for (i, bad) in flags.iter().enumerate() {
-            self.put_flagged(*bad, i);
+        for (i, flag) in flags.iter().enumerate() {
+            self.put_flagged(*flag == 1, i);
         }
     }
 
     // Adds the lines of a check that found the flagged sectors bad.
-    fn put_checked(&mut self, g: Layout, stores: usize, flags: &[bool], count: usize)
+    fn put_checked(&mut self, g: Layout, stores: usize, flags: &[u8], count: usize)
         requires { (layout_ok g ≡ true) × (length flags.now ≡ g.provided) × (g.provided ≤ 128) × (self.old.len + 8192 ≤ length self.old.bytes.now) }
         ensures { Adds self.old (checked_text g stores (flagged flags.now) count) self.new }
     {
@@ -125,7 +125,7 @@ fn check(image: &mut [u8], text: &mut Text) -> Result<(), Refusal>
     let mut bytes = [0u8; STAGING_SIZE];
     let staging = &mut bytes[..held.staging];
     let opened = volume_check::recover(image, staging, 0)?;
-    let mut bad = [false; MOST_IMAGE_SECTORS];
+    let mut bad = [0u8; MOST_IMAGE_SECTORS];
     let flags = &mut bad[..held.layout.provided];
     let count = volume_check::bad_sectors(opened.state, image, staging, flags);
     text.put_checked(held.layout, opened.stores, flags, count);

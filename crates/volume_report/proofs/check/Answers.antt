@@ -1,6 +1,5 @@
 use Prim.Native.Nat.{ℕ}
 use native.Mathlib.Omega.{arith}
-use mathlib.Core.Bool.{Bool, false}
 use mathlib.Core.Path.{◌≡◌, sym, ap, ◌∙◌}
 use lib.ListN.{replicate, length-replicate}
 use lib.Seq.{length-take-le}
@@ -49,7 +48,7 @@ slice_bounds-bad-end c = held-provided c.args.image.now _ _ (rw c.in_ok-held.was
 pub slice_bounds-flags-end : goal.slice_bounds-flags-end
 slice_bounds-flags-end c =
     let low = held-provided c.args.image.now _ _ (rw c.in_ok-held.was at c.query.ensures) c.if-image.false in
-    sym (length-take-le _ (replicate 128 false) (omega (arith, length-replicate {A = Bool} 128 false, low)))
+    sym (length-take-le _ (replicate 128 0) (omega (arith, length-replicate {A = ℕ} 128 0, low)))
 
 pub put_checked-requires : goal.put_checked-requires
 put_checked-requires c =
@@ -58,7 +57,7 @@ put_checked-requires c =
     let short = c.if-image.false in
     let is : taken (h.layout, h.staging) ≡ query_of 0 v = rw c.in_ok-held.was at c.query.ensures in
     let low = held-provided v _ _ is short in
-    let size = length-take-le {A = Bool} h.layout.provided (replicate 128 false) (omega (arith, length-replicate {A = Bool} 128 false, low)) in
+    let size = length-take-le {A = ℕ} h.layout.provided (replicate 128 0) (omega (arith, length-replicate {A = ℕ} 128 0, low)) in
     (held-ok v _ _ is short, omega (arith, size, c.bad_sectors-count.auto), low, c.requires)
 
 pub returns : goal.returns
@@ -68,7 +67,7 @@ returns c =
     let short = c.if-image.false in
     let is : taken (h.layout, h.staging) ≡ query_of 0 v = rw c.in_ok-held.was at c.query.ensures in
     let low = held-provided v _ _ is short in
-    let size = length-take-le {A = Bool} h.layout.provided (replicate 128 false) (omega (arith, length-replicate {A = Bool} 128 false, low)) in
+    let size = length-take-le {A = ℕ} h.layout.provided (replicate 128 0) (omega (arith, length-replicate {A = ℕ} 128 0, low)) in
     let empty = take-replicate _ 65536 0 (held-staging v _ _ is short) in
     let reported = by-recover v short _ _ is _ empty _ (rw c.in_ok-opened.was at c.recover.ensures) in
     let o = c.in_ok-opened.opened in
