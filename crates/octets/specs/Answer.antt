@@ -1,4 +1,4 @@
--- What a call answers. R100: each answer enum of the code is mapped onto `Answer` by a definition, which gives the number and values of each of its
+-- What a call answers. R100: each answer of the code is mapped onto `Answer` by a definition, which gives the number and values of each of its
 -- cases, and the contracts are stated by that definition.
 --
 -- Refusal Value  : a number of R71's table, and what is also returned, as values of that type

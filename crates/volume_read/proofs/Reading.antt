@@ -1,4 +1,4 @@
--- Read: the newest staged entry, the tag of a sector, and one law to a return.
+-- Read: the newest staged entry, the tag of a sector, and what a read gives behind its tests.
 use Prim.Native.Nat.{ℕ, zero, suc, ◌+◌, ◌-◌, ◌*◌, ◌≤◌, ◌<◌}
 use mathlib.Core.Bool.{Bool, true, false, ◌&&◌}
 use mathlib.Core.List.{List, [], ◌∷◌, ◌++◌}
